@@ -27,7 +27,7 @@ fn main(rt: HostRuntime) -> ExitCode {
     ExitCode::from(status)
 }
 
-/// Runs the program, and tells behind its answer what was noted meanwhile.
+/// Runs the program, and reports after its answer what was noted meanwhile.
 fn run_watched<E: Write>(rt: &HostRuntime, words: &[String], err: &mut E) -> u8 {
     let notes = Notes::new();
     let mut input = WatchedInput::new(rt.stdin(), "standard input", &notes);
@@ -39,8 +39,8 @@ fn run_watched<E: Write>(rt: &HostRuntime, words: &[String], err: &mut E) -> u8 
     status
 }
 
-/// Runs the program over streams of any kind. It passes on nothing of the contract, which is proved
-/// once for all of them and would be too long at these.
+/// Runs the program over streams of any kind. It has no contract: that of `run` is proved once for
+/// all streams, and would be too long for these types.
 fn run_on<R: Read, W: Write, E: Write>(
     watched: &Watched<'_, HostRuntime>,
     words: &[String],

@@ -1,4 +1,4 @@
--- How a new state of some boxes alone stands.
+-- Whether a new state of some boxes alone is solved, barred or to be expanded.
 use Rattle.std.specs.Prelude.{ℕ, ◌≡◌, List, false}
 use Rattle.sok_rules.specs.Play.{AllOnGoals}
 use Rattle.sok_board.specs.Area.{BoardView}
@@ -12,12 +12,12 @@ use Rattle.sok_alone.specs.declared.judging.Judged.TheVariants.{Solved, Stands}
 use Rattle.sok_state.specs.Keys.{key_position}
 use Rattle.sok_alone.specs.Known.{inner_at}
 
--- a reason that bars boxes that are alone on the board
+-- a reason that bars these boxes alone on the board
 pub record IsBarring (b : BoardView) (boxes : List ℕ) (reason : InnerReason) : Type 0 where
   pub other : is_expanded reason ≡ false
   pub bars : BarsAlone b boxes reason
 
--- the position of the state may stand with a reason
+-- the position of the state may be in a closed list, for this reason
 pub record MayStand (b : BoardView) (key : Key) (reason : InnerReason) : Type 0 where
   pub reasoned : IsReasoned inner_node b (IsBarredAlone b) (inner_at key reason)
   pub fits : FitsInner (inner_at key reason)

@@ -1,4 +1,4 @@
--- Boxes that are found to be never solved, taken alone: kept for a whole search.
+-- Losses: some boxes that can't be solved alone on the board. They are kept for a whole search.
 use Rattle.std.specs.Prelude.{ℕ, ◌≡◌, ◌<◌, ◌≤◌, ◌↔◌, List, Option, Some, All, Contains, length, slice_get}
 use Rattle.std.specs.List.Sorted.{IsStrictlyIncreasing}
 use Rattle.std.specs.Option.{IfSome}
@@ -12,11 +12,11 @@ use Rattle.sok_alone.specs.declared.losses.Loss.{Loss}
 use Rattle.sok_alone.specs.declared.losses.Losses.{Losses}
 use Rattle.sok_alone.specs.Workspace.{IsWorkspace}
 
--- the most positions of a loss
+-- the greatest number of positions of a loss
 abbrev pub loss_limit : ℕ
 loss_limit = 200
 
--- a state of some boxes alone, with where the player comes in it, and positions of them that are closed under pushes
+-- a state of some boxes alone, the region of the player in it, and positions of these boxes that are closed under pushes
 pub record IsLoss (b : BoardView) (loss : Loss) : Type 0 where
   pub state : IsKey b loss.key
   pub region : IsRegion b loss.key.boxes loss.key.least loss.region
@@ -24,19 +24,19 @@ pub record IsLoss (b : BoardView) (loss : Loss) : Type 0 where
   pub few : length loss.inner ≤ loss_limit
   pub fit : All FitsInner loss.inner
 
--- losses of a board, room for all its squares, and what searches on it keep
+-- the losses are of the board, the table has room for its squares, and the workspace is the board's
 pub record KeepsLosses (b : BoardView) (kept : Losses) : Type 0 where
   pub room : length b.area ≤ kept.asked.room
   pub each : All (IsLoss b) kept.losses.items
   pub workspace : IsWorkspace b kept.workspace
 
--- the loss at a place is one of a state
+-- the loss at an index is of this state
 pub record HasKeyAt (losses : List Loss) (place : ℕ) (key : Key) : Type 0 where
   pub loss : Loss
   pub there : slice_get losses place ≡ Some loss
   pub same : loss.key ≡ key
 
--- the loss at a place is of boxes among these, and is closed from where the player stands
+-- the loss at an index is of some of these boxes, and its positions are closed from where the player stands
 pub record IsLostBy (b : BoardView) (player : ℕ) (boxes : List ℕ) (losses : List Loss) (place : ℕ) : Type 0 where
   pub loss : Loss
   pub there : slice_get losses place ≡ Some loss
@@ -46,7 +46,7 @@ pub record IsLostBy (b : BoardView) (player : ℕ) (boxes : List ℕ) (losses : 
   pub few : length loss.inner ≤ loss_limit
   pub fit : All FitsInner loss.inner
 
--- each loss stays at its place
+-- each loss keeps its index
 abbrev pub KeepsPlaces : List Loss → List Loss → Type 0
 KeepsPlaces old new = (place : ℕ) (loss : Loss) → slice_get old place ≡ Some loss → slice_get new place ≡ Some loss
 
@@ -54,23 +54,23 @@ KeepsPlaces old new = (place : ℕ) (loss : Loss) → slice_get old place ≡ So
 abbrev pub losses_of : Losses → List Loss
 losses_of kept = kept.losses.items
 
--- more are kept than before, each of the board
+-- the old losses keep their indices, and all losses are of the board
 pub record AddsLosses (b : BoardView) (old new : Losses) : Type 0 where
   pub losses : KeepsLosses b new
   pub kept : KeepsPlaces (losses_of old) (losses_of new)
 
--- they are, and the loss at a place shows that nothing solves
+-- the same; if an index is returned, the loss there shows that these boxes have no solution with the player here
 pub record TellsLoss (b : BoardView) (player : ℕ) (boxes : List ℕ) (old new : Losses) (found : Option ℕ) : Type 0 where
   pub losses : KeepsLosses b new
   pub kept : KeepsPlaces (losses_of old) (losses_of new)
   pub lost : IfSome found (IsLostBy b player boxes (losses_of new))
 
--- those of some boxes that stand on some squares, rising
+-- the boxes that are on these squares, in rising order
 pub record AreChosen (boxes squares chosen : List ℕ) : Type 0 where
   pub rising : IsStrictlyIncreasing chosen
   pub exact : (n : ℕ) → Contains chosen n ↔ (Contains boxes n × Contains squares n)
 
--- a box that stands on one square can be pushed to another, which is free
+-- there is a box on one square, and the other square is free
 pub record ArePushed (b : BoardView) (boxes : List ℕ) (from to : ℕ) : Type 0 where
   pub exist : All (λ square. square < length b.area) boxes
   pub there : Contains boxes from

@@ -1,4 +1,4 @@
--- What the steps of a search tell.
+-- What the steps of a search do.
 use Rattle.std.specs.Prelude.{ℕ, ◌≡◌, ◌≤◌, ◌+◌, ◌++◌, List, All, Contains, length}
 use Rattle.sok_board.specs.Area.{BoardView, position_of}
 use Rattle.sok_state.specs.declared.key.Key.{Key}
@@ -15,14 +15,14 @@ use Rattle.sok_state.specs.Keys.{key_position}
 use Rattle.sok_alone.specs.Known.{IsKnown, roll_of}
 use Rattle.sok_alone.specs.GivenUp.{HasEnded}
 
--- states that were known stay as they are, and others come behind them
+-- known states are unchanged, and new ones follow them
 pub record Grows (old new : Known) : Type 0 where
   pub entries : Entries
   pub entries_are : new.table.entries ≡ old.table.entries ++ entries
   pub inner : List Inner
   pub inner_are : new.inner.items ≡ old.inner.items ++ inner
 
--- a state is known now
+-- the state is known afterwards
 pub record IsMet (b : BoardView) (start : Key) (limit : ℕ) (old : Known) (key : Key) (new : Known) : Type 0 where
   pub known : IsKnown b start limit new
   pub grows : Grows old new
@@ -33,7 +33,7 @@ abbrev pub TellsMet : BoardView → Tabled → Key → ℕ → Known → Key →
 TellsMet b lives start limit old key new On = IsMet b start limit old key new
 TellsMet b lives start limit old key new Ended = HasEnded lives b.rows (key_position b start) limit
 
--- the states that pushes lead to are known now
+-- the states that these pushes lead to are known afterwards
 pub record HasFollowed (b : BoardView) (start : Key) (limit : ℕ) (old : Known) (key : Key) (pushes : List Push) (new : Known) : Type 0 where
   pub known : IsKnown b start limit new
   pub grows : Grows old new
@@ -43,7 +43,7 @@ abbrev pub TellsFollowed : BoardView → Tabled → Key → ℕ → Known → Ke
 TellsFollowed b lives start limit old key pushes new On = HasFollowed b start limit old key pushes new
 TellsFollowed b lives start limit old key pushes new Ended = HasEnded lives b.rows (key_position b start) limit
 
--- all that is known holds, and the states before a place are followed
+-- the invariant holds, and the pushes from the expanded states before a place lead to known states
 pub record HasRun (b : BoardView) (start : Key) (limit : ℕ) (old : Known) (place : ℕ) (new : Known) : Type 0 where
   pub known : IsKnown b start limit new
   pub grows : Grows old new
@@ -53,12 +53,12 @@ abbrev pub TellsExpanded : BoardView → Tabled → Key → ℕ → Known → �
 TellsExpanded b lives start limit old index new On = HasRun b start limit old (index + 1) new
 TellsExpanded b lives start limit old index new Ended = HasEnded lives b.rows (key_position b start) limit
 
--- so are all known states
+-- the same of all known states
 abbrev pub TellsAll : BoardView → Tabled → Key → ℕ → Known → Known → Met → Type 0
 TellsAll b lives start limit old new On = HasRun b start limit old (length new.inner.items) new
 TellsAll b lives start limit old new Ended = HasEnded lives b.rows (key_position b start) limit
 
--- in the end: they are, and a state is among them
+-- the end of a search: all pushes from expanded states lead to known states, and the first state is among them
 pub record IsFinished (b : BoardView) (start : Key) (limit : ℕ) (first : Key) (new : Known) : Type 0 where
   pub known : IsKnown b start limit new
   pub followed : AreFollowed b (roll_of new) (length new.inner.items)
@@ -69,13 +69,13 @@ abbrev pub TellsRun : BoardView → Tabled → Key → ℕ → Key → Known →
 TellsRun b lives start limit first new On = IsFinished b start limit first new
 TellsRun b lives start limit first new Ended = HasEnded lives b.rows (key_position b start) limit
 
--- positions of some boxes alone that are closed under pushes, no more than the limit, with numbers that are small enough
+-- at most `limit` positions of some boxes alone, which are closed under pushes and have lines in a certificate
 pub record AreClosedWithin (b : BoardView) (player : ℕ) (boxes : List ℕ) (limit : ℕ) (inner : List Inner) : Type 0 where
   pub closed : AreClosedAlone b player boxes inner
   pub few : length inner ≤ limit
   pub fit : All FitsInner inner
 
--- the known positions are so, where the search has run from where the player stands
+-- what a search from a position returns: the known positions are such a list, or it has ended without one
 abbrev pub TellsAlone : BoardView → Tabled → ℕ → List ℕ → ℕ → List Inner → Met → Type 0
 TellsAlone b lives player boxes limit inner On = AreClosedWithin b player boxes limit inner
 TellsAlone b lives player boxes limit inner Ended = HasEnded lives b.rows (position_of b player boxes) limit

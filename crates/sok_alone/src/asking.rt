@@ -1,4 +1,4 @@
-//! Which boxes of a position are asked for a loss, and when.
+//! Which boxes of a position are checked for a loss, and when.
 
 ghost use Rattle.std.specs.Prelude.{◌<◌, All, Contains, IfOk, IsTrue, length};
 ghost use Rattle.sok_board.specs.BoxSets.{put_in_order};
@@ -18,14 +18,14 @@ use sok_rules::cell::Dir;
 use sok_rules::fault::Memory;
 use std::alloc::Global;
 
-/// How far apart boxes stand close, at most, in rows and in columns.
+/// The greatest distance of boxes that are close to each other, in rows and in columns.
 const REACH: u32 = 2;
 
-/// How many states are known before two boxes are asked that do not stand close: in a small search it
-/// takes longer than it saves.
+/// Pairs that are not close are checked only once this many states are known. In a smaller search,
+/// that takes longer than it saves.
 const KNOWN: usize = 1_000;
 
-/// A push of one of some boxes, about which is asked where so many states are known.
+/// A push of one of some boxes that is to be checked for a loss, when `known` states are known.
 #[derive(Clone, Copy)]
 pub(crate) struct Asking<'a> {
     alloc: Global,
@@ -39,8 +39,8 @@ pub(crate) struct Asking<'a> {
 }
 
 impl Asking<'_> {
-    /// Whether the pushed box is asked with another one: with each one, once many states are known,
-    /// and with one that stands close.
+    /// Returns whether the pushed box is checked together with another one: with any box once many
+    /// states are known, and before that only with a box that is close to it.
     fn reaches(&self, one: Sq) -> bool
         requires to { self.now.to < length self.now.board.now.area }
         requires one { one < length self.now.board.now.area }
@@ -48,7 +48,7 @@ impl Asking<'_> {
         self.known >= KNOWN || are_close(self.board, self.to, one)
     }
 
-    /// Whether boxes stand on all of some squares after the push.
+    /// Returns whether boxes are on all of these squares after the push.
     fn leaves(&self, squares: &[Sq]) -> bool
         ensures { IsTrue result → All
             (Contains (put_in_order self.now.from self.now.to self.now.boxes.now)) squares.now }
@@ -61,7 +61,7 @@ impl Asking<'_> {
         true
     }
 
-    /// Whether a box stands on a square after the push.
+    /// Returns whether a box is on a square after the push.
     fn leaves_one(&self, square: Sq) -> bool
         ensures { IsTrue result
             → Contains (put_in_order self.now.from self.now.to self.now.boxes.now) square }
@@ -71,11 +71,11 @@ impl Asking<'_> {
 }
 
 impl Losses {
-    /// The place of a loss that shows that nothing solves after a push of one of the boxes: that box
-    /// and another one, or two that stand close, are never solved from there, were they alone on the
-    /// board. What was found of them is kept. Those that were not asked yet are searched if that is
-    /// worth it where so many states are known. None promises nothing. It refuses only for want of
-    /// memory.
+    /// Finds a loss that shows that no solution follows a push of one of the boxes, and returns its
+    /// index. The loss is of the pushed box and another one, or of it and two others if the three
+    /// are close: alone on the board, they can't be solved from there. Results are kept. Boxes that
+    /// were not checked before are searched only if that is worth it with `known` states. `None`
+    /// does not mean that there is no loss.
     pub fn loss_after(
         &mut self,
         alloc: Global,
@@ -109,7 +109,7 @@ impl Losses {
         self.loss_of_three(&asking)
     }
 
-    /// The place of a loss of the pushed box and another one.
+    /// Returns the index of a loss of the pushed box and another one.
     fn loss_of_two(&mut self, asking: &Asking<'_>) -> Result<Option<u32>, Memory>
         requires { MayAsk asking.now self.old }
         ensures { IfOk result (TellsAsked asking.now self.old self.new) }
@@ -126,7 +126,8 @@ impl Losses {
         Ok(None)
     }
 
-    /// The place of a loss of the pushed box and two others, where the three stand close.
+    /// Returns the index of a loss of the pushed box and two others, if the three are close to each
+    /// other.
     fn loss_of_three(&mut self, asking: &Asking<'_>) -> Result<Option<u32>, Memory>
         requires { MayAsk asking.now self.old }
         ensures { IfOk result (TellsAsked asking.now self.old self.new) }
@@ -143,7 +144,8 @@ impl Losses {
         Ok(None)
     }
 
-    /// The place of a loss of the pushed box, one that stands close to it, and one behind that.
+    /// Returns the index of a loss of the pushed box, `one`, which is close to it, and a later box
+    /// that is close to both.
     fn loss_beside(&mut self, asking: &Asking<'_>, one: Sq) -> Result<Option<u32>, Memory>
         requires asking { MayAsk asking.now self.old }
         requires among { Contains asking.now.boxes.now one }
@@ -164,7 +166,8 @@ impl Losses {
         Ok(None)
     }
 
-    /// The place of a loss of the pushed box and one other, or two, unless none is known by a hint.
+    /// Returns the index of a loss of the pushed box and one or two others. Uses the hint if there
+    /// is one that holds. Otherwise looks the boxes up or searches them, if that is worth it.
     fn ask(&mut self, asking: &Asking<'_>, one: Sq, two: Option<Sq>) -> Result<Option<u32>, Memory>
         requires { MayAsk asking.now self.old }
         ensures { IfOk result (TellsAsked asking.now self.old self.new) }
@@ -184,7 +187,7 @@ impl Losses {
         Ok(found)
     }
 
-    /// Whether the loss at a place shows that nothing solves after a push.
+    /// Returns whether the loss at an index shows that no solution follows the push.
     fn shows(&self, asking: &Asking<'_>, place: u32) -> bool
         requires { MayAsk asking.now self.now }
         ensures { IsTrue result → IsLostBy asking.now.board.now asking.now.from
@@ -197,7 +200,8 @@ impl Losses {
         }
     }
 
-    /// The place of a loss after a push, of those of the boxes that stand on some squares before it.
+    /// Returns the index of a loss after the push, of the boxes that are on these squares before
+    /// it.
     fn loss_pushed(&mut self, asking: &Asking<'_>, squares: &[Sq]) -> Result<Option<u32>, Memory>
         requires asking { MayAsk asking.now self.old }
         requires among { Contains squares.now asking.now.from }
@@ -216,8 +220,8 @@ impl Losses {
         )
     }
 
-    /// The place of a loss of two of the boxes, which are never solved from where the player stands,
-    /// were they alone on the board. None promises nothing. It refuses only for want of memory.
+    /// Returns the index of a loss of two of the boxes: alone on the board, they can't be solved
+    /// from where the player stands. `None` does not mean that there is no loss.
     pub fn loss_among(
         &mut self,
         alloc: Global,
@@ -245,7 +249,7 @@ impl Losses {
     }
 }
 
-/// Whether two boxes stand close to each other.
+/// Returns whether two boxes are close to each other.
 fn are_close(board: &Board, one: Sq, other: Sq) -> bool
     requires one { one < length board.now.area }
     requires other { other < length board.now.area }

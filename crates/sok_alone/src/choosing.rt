@@ -8,7 +8,7 @@ use sok_board::box_set::BoxSet;
 use sok_rules::fault::Memory;
 use std::alloc::Global;
 
-/// Those of some boxes that stand on some squares. It refuses only for want of memory.
+/// Returns those of the boxes that are on these squares.
 pub(crate) fn chosen(alloc: Global, boxes: &BoxSet, squares: &[Sq]) -> Result<BoxSet, Memory>
     ensures { IfOk result (AreChosen boxes.now squares.now) }
 {

@@ -1,4 +1,4 @@
-//! The list of positions of some boxes alone that is closed under pushes.
+//! Finds a list of positions of some boxes alone that is closed under pushes.
 
 ghost use Rattle.std.specs.Prelude.{◌≡◌, ◌≤◌, [], IfOk, IfNone, IfSome, OnOk, length};
 ghost use Rattle.sok_board.specs.Area.{position_of};
@@ -21,10 +21,10 @@ use sok_state::key::Key;
 use sok_state::table::Table;
 use std::alloc::Global;
 
-/// Positions of some boxes alone on the board, closed under pushes, the first of them of the state
-/// that the player's square makes: a breadth-first search over states, in which jams and crowds are
-/// not expanded. None where the boxes are solved in a state, or more than `limit` states are come
-/// to. It refuses only for want of memory.
+/// Finds a list of positions of these boxes alone on the board that is closed under pushes. The
+/// first has the state of the given position. It is a breadth-first search over states, which does
+/// not expand jams and crowds. Returns None if the boxes are solved in a state, or if more than
+/// `limit` states are reached.
 pub fn close_alone(
     alloc: Global,
     setting: &Setting<'_>,
@@ -48,8 +48,8 @@ pub fn close_alone(
     found
 }
 
-/// The same from a state, but for states that are noted in a table at depth 0: where one is come to,
-/// there may be no answer either.
+/// Like `close_alone`, but from a state. Also returns None if it reaches a state that is in `lives`
+/// at depth 0.
 pub(crate) fn close_unless(
     alloc: Global,
     setting: &Setting<'_>,
@@ -70,7 +70,7 @@ pub(crate) fn close_unless(
 {
     let mut known = Known::new(alloc, setting.board.squares());
     let met = run_from(alloc, setting, lives, workspace, first, limit, &mut known);
-    // The table is let go here once, and not at each exit.
+    // The table is freed here once, and not at each exit.
     let Known { table, inner } = known;
     table.let_go();
     match met? {
@@ -79,7 +79,7 @@ pub(crate) fn close_unless(
     }
 }
 
-/// Runs a search from a state, with no states known before.
+/// Runs a search from a state; `known` is empty.
 fn run_from(
     alloc: Global,
     setting: &Setting<'_>,
@@ -100,7 +100,7 @@ fn run_from(
         (TellsAlone setting.now.board.now lives.now first.now.least first.now.boxes
         limit known.new.inner.items) }
 {
-    // A set of boxes tells with its list that they are few.
+    // Called for its clause that the boxes are few.
     let _squares = first.boxes.list();
     run(alloc, setting, lives, limit, known, workspace, first)
 }

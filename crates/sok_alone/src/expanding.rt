@@ -1,4 +1,4 @@
-//! The pushes of a state are followed.
+//! Expands the states of a search of some boxes alone.
 
 ghost use Rattle.std.specs.Prelude.{◌<◌, All, IfOk, OnOk, length};
 ghost use Rattle.sok_closed.specs.Lookup.{AreFollowed};
@@ -20,7 +20,7 @@ use sok_state::scene::Scene;
 use sok_state::table::Table;
 use std::alloc::Global;
 
-/// Follows some legal pushes of a known state.
+/// Follows some legal pushes of a known state, and adds the states that they lead to.
 fn follow_all(
     alloc: Global,
     setting: &Setting<'_>,
@@ -52,7 +52,8 @@ fn follow_all(
     Ok(Met::On)
 }
 
-/// Follows each legal push of a known state, if it is to be expanded.
+/// Expands the known state at `index`, if its reason is `Expanded`: adds the states that its legal
+/// pushes lead to.
 fn expand(
     alloc: Global,
     setting: &Setting<'_>,
@@ -110,7 +111,7 @@ fn expand_all(
     Ok(Met::On)
 }
 
-/// Comes to a first state, and expands one known state after another, until none is left or the
+/// Adds a first state, and then expands one known state after another, until none is left or the
 /// search has ended.
 pub(crate) fn run(
     alloc: Global,

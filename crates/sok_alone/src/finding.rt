@@ -1,4 +1,4 @@
-//! Two boxes of a position that are never solved, taken alone.
+//! Patterns of two boxes of a position.
 
 ghost use Rattle.std.specs.Prelude.{◌≡◌, ◌<◌, ◌≤◌, ◌∷◌, [], All, Contains, IfOk, IfNone, IfSome, Some, length, slice_get};
 ghost use Rattle.std.specs.List.Sorted.{IsStrictlyIncreasing};
@@ -18,10 +18,9 @@ use sok_entry::entry::Numbers;
 use sok_rules::fault::Memory;
 use std::alloc::Global;
 
-/// The pattern of two boxes of a position, if they are never solved from where the player stands,
-/// were they alone on the board (a deadlock of two boxes; Sokoban Wiki, "Deadlocks"). It has at most
-/// `limit` positions. None where they are solved, or where more than `limit` of their states are
-/// come to. It refuses only for want of memory.
+/// Finds the pattern of two boxes that can't be solved alone on the board from where the player
+/// stands (a deadlock of two boxes; Sokoban Wiki, "Deadlocks"). It has at most `limit` positions.
+/// Returns None if the boxes have a solution, or if more than `limit` of their states are reached.
 pub fn find_pattern(
     alloc: Global,
     setting: &Setting<'_>,
@@ -57,7 +56,7 @@ pub fn find_pattern(
     Ok(Some(FoundPattern { members, inner }))
 }
 
-/// The places of some boxes in a list of boxes. It refuses only for want of memory.
+/// Returns the indices of the boxes on these squares in a list of boxes.
 pub(crate) fn members_of(alloc: Global, boxes: &[Sq], squares: &[Sq]) -> Result<Numbers, Memory>
     requires rising { IsStrictlyIncreasing boxes.now }
     requires few { length boxes.now ≤ box_limit }
@@ -72,7 +71,7 @@ pub(crate) fn members_of(alloc: Global, boxes: &[Sq], squares: &[Sq]) -> Result<
     Ok(Numbers::from(members))
 }
 
-/// The place of a box in a list of boxes.
+/// Returns the index of a box in a list of boxes.
 fn place_of(boxes: &[Sq], square: Sq) -> u32
     requires rising { IsStrictlyIncreasing boxes.now }
     requires few { length boxes.now ≤ box_limit }

@@ -1,11 +1,11 @@
-//! What was found.
+//! A pattern that was found.
 
 use sok_entry::entry::Numbers;
 use sok_entry::inners::Inners;
 
-/// Boxes that are never solved from where the player stands, were they alone on the board: members
-/// of a position's boxes, by their indices from 0, and positions of them that are closed under
-/// pushes. It owns what a `Pattern` shows.
+/// Boxes that can't be solved alone on the board from where the player stands: their indices in the
+/// boxes of a position, from 0, and positions of them that are closed under pushes. It owns what a
+/// `Pattern` of `sok_bar` borrows.
 #[derive(Drop)]
 pub struct FoundPattern {
     pub members: Numbers,

@@ -1,5 +1,5 @@
-//! Hints of pushes: that no loss is known after one, or which. A wrong hint costs time alone, so none
-//! of them is promised to be right.
+//! Hints for pushes: that no loss is known after a push, or which one. A wrong hint only costs
+//! time, so no clause says that hints are right.
 
 ghost use Rattle.std.specs.Prelude.{◌≤◌};
 ghost use Rattle.sok_board.specs.Limits.{square_limit};
@@ -10,20 +10,21 @@ use sok_rules::cell::Dir;
 use sok_rules::fault::Memory;
 use std::alloc::Global;
 
-/// How many hints of two boxes are kept at most: all of 2,048 squares, 64 MiB.
+/// The greatest number of hints of two boxes: 64 MiB, enough for all of them on a board of 2,048
+/// squares.
 const PAIRS: usize = 16_777_216;
 
-/// How many other hints are kept, a prime number.
+/// The number of other hints that are kept, a prime number.
 const TRIOS: usize = 65_521;
 
-/// What is known of the pushed box with one other box, or with two, after a push.
+/// What is known of the pushed box with one or two other boxes, after a push.
 #[derive(Clone, Copy)]
 pub(crate) enum Hint {
-    /// They were not asked.
+    /// They were not checked.
     Open,
     /// No loss is known.
     Clear,
-    /// The loss at this place.
+    /// The index of a loss.
     Lost(u16),
 }
 
@@ -32,13 +33,14 @@ pub(crate) enum Hint {
 pub(crate) struct Hints {
     /// Of two boxes, by the push and the square of the other box.
     pairs: Vec<Hint>,
-    /// Of three boxes, by the push and the squares of the two others, and of two where that table
-    /// ends: the last one of each remainder of which no loss is known.
+    /// Numbers of hints that no loss is known: of three boxes, by the push and the squares of the
+    /// two others, and of two boxes that are beyond the end of `pairs`. For each remainder modulo
+    /// `TRIOS`, the last one is kept.
     trios: Vec<usize>,
 }
 
 impl Hints {
-    /// No hint, for a board of so many squares. It refuses only for want of memory.
+    /// Returns a collection without hints, for a board with this many squares.
     pub(crate) fn new(alloc: Global, squares: usize) -> Result<Hints, Memory>
         requires { squares ≤ square_limit }
     {
@@ -48,7 +50,7 @@ impl Hints {
         })
     }
 
-    /// The hint with a number, if it was noted, and not since displaced.
+    /// Returns the hint with a number; `Open` if it was not noted, or was displaced.
     pub(crate) fn at(&self, number: usize) -> Hint {
         match self.pairs.get(number) {
             Some(hint) => *hint,
@@ -68,7 +70,7 @@ impl Hints {
     }
 }
 
-/// What a hint says where a loss was found, or none.
+/// Returns the hint for a loss that was found, or for none.
 fn hint_from(found: Option<u32>) -> Hint {
     match found {
         Some(place) => match u16::try_from(place) {
@@ -79,8 +81,8 @@ fn hint_from(found: Option<u32>) -> Hint {
     }
 }
 
-/// The number of the hint for a push to a square and one other box, or two. Those of three boxes
-/// are above those of two.
+/// Returns the number of the hint for a push to `to` and one or two other boxes. The numbers for
+/// three boxes are greater than those for two.
 pub(crate) fn hint_of(board: &Board, dir: Dir, to: Sq, one: Sq, two: Option<Sq>) -> usize {
     let squares = board.squares();
     let side = match dir {
@@ -96,8 +98,8 @@ pub(crate) fn hint_of(board: &Board, dir: Dir, to: Sq, one: Sq, two: Option<Sq>)
     }
 }
 
-/// A number with a square behind it, as a last digit. It never wraps where the squares are of the
-/// board, which nothing has to show: a wrong hint costs time alone.
+/// Appends a square to a number, as its last digit. This never wraps if the squares are those of
+/// the board. Nothing needs to prove that, since a wrong hint only costs time.
 fn with_square(number: usize, squares: usize, square: Sq) -> usize {
     number.wrapping_mul(squares).wrapping_add(square as usize)
 }

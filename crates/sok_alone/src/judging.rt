@@ -1,4 +1,4 @@
-//! How a new state of some boxes alone stands.
+//! Whether a new state of some boxes alone is solved, barred or to be expanded.
 
 ghost use Rattle.std.specs.Prelude.{◌<◌, ◌↔◌, IsTrue, IfOk, IfSome};
 ghost use Rattle.sok_board.specs.Area.{IsAccepted};
@@ -19,18 +19,17 @@ use sok_rules::fault::Memory;
 use sok_state::key::Key;
 use std::alloc::Global;
 
-/// How a state stands.
+/// What is found of a state.
 #[derive(Drop)]
 pub(crate) enum Judged {
-    /// All boxes stand on goals.
+    /// All boxes are on goals.
     Solved,
-    /// It may stand in a closed list for a reason, if all its pushes are followed where it is to be
-    /// expanded.
+    /// It may be in a closed list for this reason. If it is to be expanded, all its pushes have to
+    /// be followed.
     Stands(InnerReason),
 }
 
-/// How a state of some boxes alone stands: solved, barred by a jam or a crowd, or to be expanded. It
-/// refuses only for want of memory.
+/// Judges a state of some boxes alone: it is solved, barred as a jam or a crowd, or to be expanded.
 pub(crate) fn judge(alloc: Global, setting: &Setting<'_>, key: &Key) -> Result<Judged, Memory>
     requires accepted { IsAccepted setting.now.board.now }
     requires placed { IsPlaced setting.now.board.now key.now.boxes key.now.least }
@@ -45,8 +44,8 @@ pub(crate) fn judge(alloc: Global, setting: &Setting<'_>, key: &Key) -> Result<J
     }
 }
 
-/// A reason for barring boxes that are alone on the board, with the player on a square. One may be
-/// missed.
+/// Returns a reason that bars these boxes alone on the board, with the player on a square. It may
+/// miss one.
 fn barring(
     alloc: Global,
     setting: &Setting<'_>,
@@ -67,7 +66,7 @@ fn barring(
     }
 }
 
-/// A crowd of one box, or else of all boxes.
+/// Returns a crowd: one of the boxes, or otherwise all of them.
 fn find_crowd(
     alloc: Global,
     setting: &Setting<'_>,
@@ -91,7 +90,7 @@ fn find_crowd(
     Ok(None)
 }
 
-/// Whether members share too few goals.
+/// Returns whether the members can reach too few goals.
 fn is_crowd(
     alloc: Global,
     setting: &Setting<'_>,

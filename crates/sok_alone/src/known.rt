@@ -12,8 +12,8 @@ use sok_state::key::Key;
 use sok_state::table::Table;
 use std::alloc::Global;
 
-/// The states of some boxes alone that are known, in the order in which they were come to: their
-/// keys, and beside each a position of it with the reason why it may stand.
+/// The states of some boxes alone that are known, in the order in which they were reached: their
+/// keys, and for each a position with the reason why it may be in a closed list.
 #[derive(Drop)]
 pub(crate) struct Known {
     pub(crate) table: Table,
@@ -21,7 +21,7 @@ pub(crate) struct Known {
 }
 
 impl Known {
-    /// No states, with room for so many squares.
+    /// Returns an empty collection with room for this many squares.
     pub(crate) fn new(alloc: Global, squares: usize) -> Known
         requires { squares ≤ square_limit }
         ensures none { result.table.entries ≡ [] }
@@ -35,7 +35,7 @@ impl Known {
     }
 }
 
-/// Adds a state that is new, behind the others. All states are written at depth 0.
+/// Appends a new state. All states have depth 0.
 pub(crate) fn add(
     alloc: Global,
     known: &mut Known,

@@ -1,20 +1,20 @@
-//! Boxes that are never solved, taken alone: how they are found.
+//! Finds boxes that can't be solved alone on the board.
 //!
 //! | Module | What it holds |
 //! |---|---|
-//! | `asking` | which boxes are asked for a loss, and when (private) |
+//! | `asking` | which boxes are checked for a loss, and when (private) |
 //! | `choosing` | some of the boxes of a position (private) |
-//! | `closing` | the list of positions of some boxes alone that is closed under pushes |
-//! | `expanding` | the pushes of a state are followed (private) |
-//! | `finding` | two boxes of a position that are never solved |
-//! | `found` | what was found |
-//! | `hints` | pushes after which no loss is known (private) |
-//! | `judging` | how a new state stands (private) |
+//! | `closing` | finds a list of positions of some boxes alone that is closed under pushes |
+//! | `expanding` | expands the states of a search (private) |
+//! | `finding` | finds the pattern of two boxes |
+//! | `found` | a pattern that was found |
+//! | `hints` | pushes after which no loss is known, or which one (private) |
+//! | `judging` | whether a new state is solved, barred or to be expanded (private) |
 //! | `known` | the states that are known (private) |
-//! | `losses` | boxes that are found to be never solved, kept for a whole search |
-//! | `meeting` | a state is come to (private) |
-//! | `probing` | whether boxes are soon solved, as a guess (private) |
-//! | `workspace` | what searches keep from one to the next (private) |
+//! | `losses` | losses: boxes that can't be solved alone on the board; kept for a whole search |
+//! | `meeting` | adds a state to those that are known (private) |
+//! | `probing` | guesses whether boxes are soon solved (private) |
+//! | `workspace` | buffers that searches reuse (private) |
 #![tactic(auto)]
 
 mod asking;

@@ -1,4 +1,4 @@
-//! Boxes that are found to be never solved, taken alone: kept for a whole search.
+//! Losses: some boxes that can't be solved alone on the board. They are kept for a whole search.
 
 ghost use Rattle.std.specs.Prelude.{ℕ, ◌≡◌, ◌≤◌, All, IfOk, IfSome, OnOk, Some, length, slice_get};
 ghost use Rattle.sok_bar.specs.Patterns.{IsPattern};
@@ -26,21 +26,22 @@ use sok_state::key::Key;
 use sok_state::table::Table;
 use std::alloc::Global;
 
-/// The most states of some boxes alone that are looked at from one of them.
+/// The greatest number of states in one search of some boxes alone.
 const STATES: u32 = 200;
 
-/// How many searches there may be beyond one for each known state: so that with many boxes on a
+/// How many searches there may be in addition to one for each known state. So with many boxes on a
 /// large board they take no longer than the states themselves.
 const SEARCHES: usize = 4_096;
 
-/// On how many squares all of these may be: there are fewer of them on boards of more than 1,024.
+/// The greatest product of these searches and the squares of the board. So there are fewer searches
+/// on boards of more than 1,024 squares.
 const SQUARES: usize = 4_194_304;
 
-/// The most losses that are kept, as many as a hint can name.
+/// The greatest number of losses, as many as a hint can name.
 const LOSSES: usize = 65_536;
 
-/// A state of some boxes alone that is never solved, where the player comes in it, and positions that
-/// show it.
+/// A state of some boxes alone that has no solution, the region of the player in it, and positions
+/// that show it.
 #[derive(Drop)]
 pub struct Loss {
     pub key: Key,
@@ -48,21 +49,21 @@ pub struct Loss {
     pub inner: Inners,
 }
 
-/// What is known of two or three boxes: which states of them alone were asked, and the losses among
-/// those.
+/// What is known of groups of two or three boxes: which of their states were checked, and the
+/// losses among them.
 #[derive(Drop)]
 pub struct Losses {
-    /// After which pushes no loss is known, or which.
+    /// Pushes after which no loss is known, or which one.
     pub(crate) hints: Hints,
-    /// The states that were asked. The depth of one is 0 where no loss is known, else one more than
-    /// the place of its loss.
+    /// The states that were checked. The depth of a state is 0 if no loss is known, otherwise one
+    /// more than the index of its loss.
     asked: Table,
     losses: Vec<Loss>,
     workspace: Workspace,
 }
 
 impl Losses {
-    /// Of no boxes anything is known. It refuses only for want of memory.
+    /// Returns an empty collection for a board.
     pub fn new(alloc: Global, board: &Board) -> Result<Losses, Memory>
         ensures { IfOk result (KeepsLosses board.now) }
     {
@@ -75,12 +76,12 @@ impl Losses {
         })
     }
 
-    /// Lets go of them.
+    /// Frees the losses.
     pub fn let_go(self) {
         self.asked.let_go();
     }
 
-    /// The loss at a place, as a pattern of some boxes. It refuses only for want of memory.
+    /// Returns the loss at an index, as a pattern of some of these boxes.
     pub fn pattern_at(
         &self,
         alloc: Global,
@@ -101,20 +102,21 @@ impl Losses {
         Ok(FoundPattern { members, inner })
     }
 
-    /// The loss at a place, if there is one.
+    /// Returns the loss at an index, if there is one.
     pub(crate) fn loss_at(&self, place: u32) -> Option<&Loss>
         ensures { IfSome result (λ loss. slice_get (losses_of self.now) place ≡ Some loss.now) }
     {
         self.losses.get(place as usize)
     }
 
-    /// Whether boxes that were not asked yet may be searched where so many states are known.
+    /// Returns whether boxes that were not checked yet may be searched when `known` states are
+    /// known.
     pub(crate) fn is_worth_it(&self, board: &Board, known: usize) -> bool {
         let searches = SEARCHES.min(SQUARES / board.squares().max(1));
         self.asked.len().saturating_sub(searches) <= known
     }
 
-    /// The place of a loss of boxes alone, from where the player stands.
+    /// Returns the index of a loss of these boxes alone, from where the player stands.
     pub(crate) fn loss_of(
         &mut self,
         alloc: Global,
@@ -130,8 +132,8 @@ impl Losses {
         self.recall(alloc, setting, &key)
     }
 
-    /// The place of a loss of a state of boxes alone. They are searched if they were not asked yet,
-    /// and it is noted that they were.
+    /// Returns the index of the loss of a state of boxes alone. If the state was not checked yet,
+    /// it is searched, and the result is kept.
     fn recall(
         &mut self,
         alloc: Global,
@@ -153,9 +155,9 @@ impl Losses {
         Ok(place_of(&self.losses, number, key))
     }
 
-    /// Searches a state of boxes alone, unless they are soon solved, and up to a state of which no loss
-    /// is known though it was asked. Its loss goes last, if one is found, and its number, from 1 on, is
-    /// told, else 0.
+    /// Searches a state of boxes alone, unless they are soon solved. The search stops at a state
+    /// that was checked and of which no loss is known. If a loss is found, it is appended, and its
+    /// number from 1 is returned; otherwise 0.
     fn find(&mut self, alloc: Global, setting: &Setting<'_>, key: &Key) -> Result<u32, Memory>
         requires state { IsKey setting.now.board.now key.now }
         requires losses { KeepsLosses setting.now.board.now self.old }
@@ -184,7 +186,7 @@ impl Losses {
     }
 }
 
-/// The place of the loss with a number, if it is one of a state.
+/// Returns the index of the loss with a number, if it is one of this state.
 fn place_of(losses: &[Loss], number: u32, key: &Key) -> Option<u32>
     ensures { IfSome result (λ place. HasKeyAt losses.now place key.now) }
 {

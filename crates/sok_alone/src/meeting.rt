@@ -1,4 +1,4 @@
-//! A state is come to.
+//! Adds a state to those that are known.
 
 ghost use Rattle.std.specs.Prelude.{◌≡◌, ◌<◌, [], All, IfOk, IsTrue};
 ghost use Rattle.sok_alone.specs.Known.{IsAsked, IsKnown, IsReached};
@@ -13,15 +13,16 @@ use sok_state::key::Key;
 use sok_state::table::Table;
 use std::alloc::Global;
 
-/// That a search goes on, or that it has ended: the boxes are solved in a state, or there are more
-/// states than its limit, or a state was noted at which it stops.
+/// Whether a search goes on or has ended without a list. It ends if the boxes are solved in a
+/// state, if there are more states than the limit, or if it reaches a state at which it has to
+/// stop.
 #[derive(Clone, Copy)]
 pub(crate) enum Met {
     On,
     Ended,
 }
 
-/// Whether a state is noted in a table at depth 0.
+/// Returns whether a state is in a table at depth 0.
 fn is_live(lives: &Table, key: &Key) -> bool
     requires { All (λ square. square < lives.now.room) key.now.boxes }
     ensures { IsTrue result → lives.now.entries ≡ [] → ⊥ }
@@ -32,8 +33,8 @@ fn is_live(lives: &Table, key: &Key) -> bool
     }
 }
 
-/// Comes to a state: it is known, or is judged and added. A search stops at a state that is noted
-/// in a table at depth 0.
+/// Judges a state and adds it, unless it is known. The search ends at a state that is in `lives` at
+/// depth 0.
 pub(crate) fn meet(
     alloc: Global,
     setting: &Setting<'_>,

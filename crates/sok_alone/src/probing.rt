@@ -1,5 +1,5 @@
-//! Whether some boxes alone are soon solved. This is a guess: where it is wrong it costs time alone, so
-//! no clause says what it tells.
+//! Whether some boxes alone are soon solved. This is a guess: a wrong one only costs time, so no
+//! clause says what is returned.
 
 ghost use Rattle.std.specs.Prelude.{◌<◌, All, IfSome, OnOk, length};
 ghost use Rattle.sok_state.specs.Keys.{IsKey};
@@ -16,9 +16,9 @@ use sok_state::key::Key;
 use sok_state::push::Push;
 use std::alloc::Global;
 
-/// Whether boxes alone come to be solved by pushes each of which brings its box nearer to a free
-/// goal (hill climbing), as many as the board has squares at most. It refuses only for want of
-/// memory.
+/// Tries to solve boxes alone on the board by hill climbing: each push brings its box nearer to a
+/// free goal. Makes at most as many pushes as the board has squares. Returns whether all boxes come
+/// to goals.
 pub(crate) fn are_soon_solved(
     alloc: Global,
     setting: &Setting<'_>,
@@ -29,7 +29,7 @@ pub(crate) fn are_soon_solved(
     requires state { IsKey setting.now.board.now start.now }
     ensures workspace { OnOk result (IsWorkspace setting.now.board.now workspace.new) }
 {
-    // The list of a set of boxes tells that they are not too many.
+    // Called for its clause that the boxes are few.
     let _boxes = start.boxes.list();
     let mut key = start.copy(alloc)?;
     workspace.expansion.open(setting.board, &key)?;
@@ -47,7 +47,7 @@ pub(crate) fn are_soon_solved(
     Ok(false)
 }
 
-/// The first of some pushes that brings its box nearer to a free goal.
+/// Returns the first of these pushes that brings its box nearer to a free goal.
 fn nearer(setting: &Setting<'_>, key: &Key, pushes: &[Push]) -> Option<Push>
     requires legal { All (IsLegal setting.now.board.now key.now) pushes.now }
     ensures { IfSome result (IsLegal setting.now.board.now key.now) }
@@ -60,7 +60,7 @@ fn nearer(setting: &Setting<'_>, key: &Key, pushes: &[Push]) -> Option<Push>
     None
 }
 
-/// Whether a push brings its box nearer to a free goal.
+/// Returns whether a push brings its box nearer to a free goal.
 fn is_nearer(setting: &Setting<'_>, boxes: &BoxSet, push: Push) -> bool
     requires exists { push.from < length setting.now.board.now.area }
 {
@@ -72,8 +72,8 @@ fn is_nearer(setting: &Setting<'_>, boxes: &BoxSet, push: Push) -> bool
     }
 }
 
-/// The fewest pushes from a square to a goal on which none of the boxes but one stands, or the
-/// greatest number where none lead there.
+/// Returns the fewest pushes from `square` to a goal without a box, not counting the box on
+/// `moved`. If no pushes lead to one, returns `u16::MAX`.
 fn way(setting: &Setting<'_>, boxes: &BoxSet, moved: Sq, square: Sq) -> u16
     requires exists { square < length setting.now.board.now.area }
 {

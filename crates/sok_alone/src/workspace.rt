@@ -1,4 +1,4 @@
-//! What searches of some boxes alone keep from one to the next.
+//! Buffers that searches of some boxes alone reuse.
 
 ghost use Rattle.sok_alone.specs.Workspace.{IsWorkspace};
 
@@ -8,8 +8,8 @@ use sok_state::expansion::Expansion;
 use sok_state::normalizer::Normalizer;
 use std::alloc::Global;
 
-/// What searches of some boxes alone keep from one to the next, so that nothing is made anew: what
-/// makes keys, the state whose pushes are followed, and a place for its boxes.
+/// Buffers that searches of some boxes alone reuse: the normalizer that makes keys, the state that
+/// is expanded, and a list for its boxes.
 #[derive(Drop)]
 pub(crate) struct Workspace {
     pub(crate) normalizer: Normalizer,
@@ -18,7 +18,7 @@ pub(crate) struct Workspace {
 }
 
 impl Workspace {
-    /// One for a board.
+    /// Returns the workspace of a board.
     pub(crate) fn new(alloc: Global, board: &Board) -> Workspace
         ensures { IsWorkspace board.now result }
     {

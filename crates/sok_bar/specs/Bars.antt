@@ -1,4 +1,4 @@
--- The reasons for barring a position: what each of them says, and what it shows.
+-- The reasons for barring a position: what each of them claims, and what it shows.
 use Rattle.std.specs.Prelude.{ℕ, ◌≡◌, ◌↔◌, Bool, List, Option, Some, None, Result, IfOk, IsOkAnd, IsTrue}
 use Rattle.sok_rules.specs.declared.fault.Memory.{Memory}
 use Rattle.sok_board.specs.Area.{BoardView}
@@ -13,8 +13,8 @@ use Rattle.sok_bar.specs.Jam.{IsJam}
 use Rattle.sok_bar.specs.Patterns.{IsPattern}
 use Rattle.sok_bar.specs.Rests.{IsBarred}
 
--- a reason for barring a position, with its numbers: prices u of the boxes and v of the goals, or members of the boxes, with
--- positions of them alone for a pattern
+-- A reason for barring a position, with its numbers: prices u of the boxes and v of the goals, or members of the boxes, for a pattern with positions of these
+-- alone.
 pub data Barring : Type 0 where
   spent : Barring
   bound : (u v : List ℕ) → Barring
@@ -22,8 +22,8 @@ pub data Barring : Type 0 where
   frozen : (members : List ℕ) → Barring
   pattern : (members : List ℕ) (inner : List Inner) → Barring
 
--- what a reason says of a position with a player and these boxes: no more pushes are asked for; the prices bound the pushes,
--- and say nothing of positions without a solution; the members are a crowd, a jam or a pattern, whatever is to be shown
+-- What a reason claims of a position with a player and these boxes. Spent: no more pushes are asked for. Bound: the prices bound the pushes, which never shows
+-- that there is no solution. The others: the members are a crowd, a jam or a pattern, whatever is to be shown.
 abbrev pub Bars : BoardView → ℕ → List ℕ → Barring → Rest → Type 0
 Bars b player boxes Barring.spent (AtLeast n) = n ≡ 0
 Bars b player boxes Barring.spent Never = ⊥
@@ -33,12 +33,12 @@ Bars b player boxes (Barring.crowd members) rest = IsCrowd b boxes members
 Bars b player boxes (Barring.frozen members) rest = IsJam b boxes members
 Bars b player boxes (Barring.pattern members inner) rest = IsPattern b player boxes members inner
 
--- whether it is so is what is answered. Memory may be refused to a pattern, and to no other reason
+-- the result is whether the claim is true; only the check of a pattern may fail for want of memory
 abbrev pub IsJudged : BoardView → ℕ → List ℕ → Barring → Rest → Result Bool Memory → Type 0
 IsJudged b player boxes (Barring.pattern members inner) rest result = IfOk result (λ holds. IsTrue holds ↔ IsPattern b player boxes members inner)
 IsJudged b player boxes reason rest result = IsOkAnd result (λ holds. IsTrue holds ↔ Bars b player boxes reason rest)
 
--- a reason that looks at the boxes alone, wherever the player stands
+-- a reason about the boxes alone, wherever the player stands
 abbrev pub IsOfBoxes : Barring → Type 0
 IsOfBoxes Barring.spent = Unit {0}
 IsOfBoxes (Barring.bound u v) = Unit {0}
@@ -46,7 +46,7 @@ IsOfBoxes (Barring.crowd members) = Unit {0}
 IsOfBoxes (Barring.frozen members) = Unit {0}
 IsOfBoxes (Barring.pattern members inner) = ⊥
 
--- the reason by which an entry is barred; an expanded one gives none
+-- the reason that bars an entry, or None for an expanded one
 abbrev pub barring : Reason → Option Barring
 barring Expanded = None
 barring Spent = Some Barring.spent
@@ -55,7 +55,7 @@ barring (Crowd members) = Some (Barring.crowd members)
 barring (Frozen members) = Some (Barring.frozen members)
 barring (Pattern members inner) = Some (Barring.pattern members inner)
 
--- the law of reasons: a position that is barred by what a reason says is barred by what rests to be shown
+-- the law of reasons: if a reason's claim is true of a position, what is still to be shown is true of it
 abbrev pub ReasonsBar : BoardView → Type 0
 ReasonsBar b = (player : ℕ) (boxes : List ℕ) (reason : Barring) (rest : Rest) → IsPlaced b boxes player → Bars b player boxes reason rest
     → IsBarred b player boxes rest

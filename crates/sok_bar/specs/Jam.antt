@@ -14,15 +14,15 @@ IsWallBeside b s d = IsTrue (option_map_or (holds is_wall b.rows) (next d (spot_
 abbrev pub IsStuckBeside : BoardView → ℕ → Dir → Type 0
 IsStuckBeside b s d = IsSomeAnd (beside b s d) (IsStuck b)
 
--- the square beside is one of some squares
+-- the square beside another satisfies `IsOne`
 abbrev pub IsOneBeside : BoardView → (ℕ → Type 0) → ℕ → Dir → Type 0
 IsOneBeside b IsOne s d = IsSomeAnd (beside b s d) IsOne
 
--- a box between two squares stays: a box on one of some squares stands on one side, or both sides are stuck
+-- a box between two squares is held: one of them satisfies `IsOne`, that is, has a box that counts, or both are stuck
 abbrev pub IsBetween : BoardView → (ℕ → Type 0) → ℕ → ℕ → Type 0
 IsBetween b IsOne ahead behind = IsOne ahead ⊎ (IsOne behind ⊎ (IsStuck b ahead × IsStuck b behind))
 
--- how a box on a square is held along the axis of a direction: by a wall, by a box on one of some squares, or between stuck squares
+-- how a box on a square is held along the axis of a direction: by a wall, by a box beside it that counts, or between stuck squares
 pub data Held (b : BoardView) (IsOne : ℕ → Type 0) (s : ℕ) (d : Dir) : Type 0 where
   wall_ahead : IsWallBeside b s d → Held b IsOne s d
   wall_behind : IsWallBeside b s (opposite d) → Held b IsOne s d
@@ -30,7 +30,7 @@ pub data Held (b : BoardView) (IsOne : ℕ → Type 0) (s : ℕ) (d : Dir) : Typ
   box_behind : IsOneBeside b IsOne s (opposite d) → Held b IsOne s d
   between_stuck : IsStuckBeside b s d → IsStuckBeside b s (opposite d) → Held b IsOne s d
 
--- held along both axes
+-- a box that is held along both axes
 pub record IsHeld (b : BoardView) (IsOne : ℕ → Type 0) (s : ℕ) : Type 0 where
   pub across : Held b IsOne s Left
   pub along : Held b IsOne s Up
@@ -42,11 +42,11 @@ IsGoalSquare b s = IsTrue (holds is_goal b.rows (spot_of b s))
 abbrev pub HasOneOffGoal : BoardView → List ℕ → List ℕ → Type 0
 HasOneOffGoal b boxes members = (s : ℕ) × IsMember boxes members s × (IsGoalSquare b s → ⊥)
 
--- each member is held by members
+-- each member is held by members, walls or stuck squares
 abbrev pub AreHeld : BoardView → List ℕ → List ℕ → Type 0
 AreHeld b boxes members = (s : ℕ) → IsMember boxes members s → IsHeld b (IsMember boxes members) s
 
--- members of a list of boxes that hold each other, some of them off goals
+-- a jam: members of a list of boxes that hold each other, some of them off goals
 pub record IsJam (b : BoardView) (boxes members : List ℕ) : Type 0 where
   pub listed : AreMembers boxes members
   pub held : AreHeld b boxes members
@@ -56,7 +56,7 @@ pub record IsJam (b : BoardView) (boxes members : List ℕ) : Type 0 where
 abbrev pub HasJamWith : BoardView → List ℕ → ℕ → Type 0
 HasJamWith b boxes s = (members : List ℕ) × IsJam b boxes members × IsMember boxes members s
 
--- the members of each jam are among these
+-- these members include those of each jam
 pub record HasJams (b : BoardView) (boxes members : List ℕ) : Type 0 where
   pub listed : AreMembers boxes members
   pub most : (jam : List ℕ) → IsJam b boxes jam → (i : ℕ) → Contains jam i → Contains members i

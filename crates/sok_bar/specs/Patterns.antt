@@ -1,4 +1,4 @@
--- Boxes that are never solved, taken alone: a list of positions of them that is closed under pushes.
+-- Boxes that are never solved, even alone on the board: a list of positions of them that is closed under pushes.
 use Rattle.std.specs.Prelude.{ℕ, List, Bool, true, false, length, map, slice_index}
 use Rattle.sok_board.specs.Area.{BoardView, position_of}
 use Rattle.sok_closed.specs.Rolls.{IsClosed, Node}
@@ -17,7 +17,7 @@ is_expanded (Frozen members) = false
 abbrev pub inner_node : Inner → Node
 inner_node one = record { depth = one.depth; player = one.player; boxes = one.boxes; expanded = is_expanded one.reason }
 
--- what its reason says of its boxes, which are all that are on the board
+-- the claim of its reason about its boxes, which are all that are on the board
 abbrev pub BarsAlone : BoardView → List ℕ → InnerReason → Type 0
 BarsAlone b boxes Expanded = Unit {0}
 BarsAlone b boxes (Crowd members) = IsCrowd b boxes members
@@ -26,7 +26,7 @@ BarsAlone b boxes (Frozen members) = IsJam b boxes members
 abbrev pub IsBarredAlone : BoardView → Inner → Type 0
 IsBarredAlone b one = BarsAlone b one.boxes one.reason
 
--- from where the player stands, the boxes alone lead to these positions and no others, of which none is solved
+-- the positions are closed under pushes from where the player stands with the boxes alone, and none of them is solved
 abbrev pub AreClosedAlone : BoardView → ℕ → List ℕ → List Inner → Type 0
 AreClosedAlone b player boxes inner = IsClosed inner_node b (length boxes) (position_of b player boxes) (IsBarredAlone b) inner
 
@@ -34,7 +34,7 @@ AreClosedAlone b player boxes inner = IsClosed inner_node b (length boxes) (posi
 abbrev pub squares_at : List ℕ → List ℕ → List ℕ
 squares_at boxes members = map (slice_index boxes) members
 
--- members of the boxes that are never solved alone
+-- members of the boxes that are never solved, even alone on the board
 pub record IsPattern (b : BoardView) (player : ℕ) (boxes members : List ℕ) (inner : List Inner) : Type 0 where
   pub listed : AreMembers boxes members
   pub closed : AreClosedAlone b player (squares_at boxes members) inner

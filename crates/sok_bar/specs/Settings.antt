@@ -1,4 +1,4 @@
--- What a test of boxes is given: boxes on squares of a board, and those of them that may hold others.
+-- What tests of boxes are given: boxes on squares of a board, and which of them may hold others.
 use Rattle.std.specs.Prelude.{ℕ, ◌<◌, ◌≤◌, List, IsTrue, All, Contains, length}
 use Rattle.std.specs.List.Sorted.{IsStrictlyIncreasing}
 use Rattle.sok_board.specs.Area.{BoardView, spot_of}
@@ -14,11 +14,11 @@ pub record AreBoxesOn (b : BoardView) (boxes : List ℕ) : Type 0 where
   pub rising : IsStrictlyIncreasing boxes
   pub few : length boxes ≤ box_limit
 
--- a square of the area that bit rows have
+-- a square of the area that is in a set
 abbrev pub IsDrawn : BoardView → List ℕ → ℕ → Type 0
 IsDrawn b rows s = (s < length b.area) × IsTrue (has rows (spot_of b s))
 
--- a square of a box that may hold others
+-- a square with a box that may hold others
 abbrev pub IsHolder : BoardView → List ℕ → Holders → ℕ → Type 0
 IsHolder b boxes Every = Contains boxes
 IsHolder b boxes (Members members) = IsMember boxes members.now

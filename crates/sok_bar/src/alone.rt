@@ -1,4 +1,4 @@
-//! Positions of some boxes alone, judged: whether they are closed under pushes.
+//! Whether positions of some boxes alone are closed under pushes.
 
 ghost use Rattle.std.specs.Prelude.{List, [], ◌∷◌, ◌++◌, ◌≡◌, ◌≤◌, ◌↔◌, IsTrue, IfOk, IsOkAnd, MatchBool, length};
 ghost use Rattle.sok_board.specs.Area.{IsAccepted};
@@ -29,8 +29,8 @@ use sok_state::key::Key;
 use sok_state::normalizer::Normalizer;
 use std::alloc::Global;
 
-/// Whether positions of some boxes alone are closed under pushes, that of a player among them at
-/// depth 0. It refuses only for want of memory.
+/// Returns whether positions of some boxes alone are closed under pushes, with the player's
+/// position among them at depth 0. Errors: `Memory`.
 pub(crate) fn are_closed_alone(
     alloc: Global,
     setting: &Setting<'_>,
@@ -60,8 +60,8 @@ pub(crate) fn are_closed_alone(
     closed
 }
 
-/// The same by a roll that is empty and has room for the board, with keys of the board. Both are
-/// borrowed, since a proof lays out the drop of an owned one at each way out.
+/// Like `are_closed_alone`, with an empty roll that has room for the board, and a normalizer of the
+/// board. Both are borrowed, since a proof lays out the drop of an owned value at each return.
 fn are_closed_by(
     alloc: Global,
     setting: &Setting<'_>,
@@ -88,9 +88,9 @@ fn are_closed_by(
     leads_on(alloc, setting.board, boxes, player, roll)
 }
 
-/// Enters the positions' states into an empty roll, in order, with their depths and with marks
-/// where they are expanded, up to the first that has a fault of its own, and tells whether none
-/// has. It refuses only for want of memory.
+/// Enters the states of the positions into an empty roll, in order, with their depths, and with a
+/// mark if they are expanded. It stops at the first position that has a fault of its own, and
+/// returns whether none has. Errors: `Memory`.
 fn enter_all(
     alloc: Global,
     setting: &Setting<'_>,
@@ -121,8 +121,8 @@ fn enter_all(
     Ok(true)
 }
 
-/// Enters the state of a position into the roll of those before it, and tells whether it has no
-/// fault of its own: if it has one, the roll is of no more use. It refuses only for want of memory.
+/// Enters the state of a position into the roll of those before it, and returns whether it has no
+/// fault of its own. If it has one, the roll must not be used afterwards. Errors: `Memory`.
 fn enter_alone(
     alloc: Global,
     setting: &Setting<'_>,
@@ -160,7 +160,8 @@ fn enter_alone(
     }
 }
 
-/// The same of a position that was located: it is borrowed too, since there are several ways out.
+/// Like `enter_alone`, for a position that was located. This is borrowed too, since there are
+/// several returns.
 fn enter_located(
     alloc: Global,
     setting: &Setting<'_>,
@@ -192,8 +193,8 @@ fn enter_located(
     may_stand(alloc, setting, one, boxes)
 }
 
-/// Whether a position may stand in a pattern, given with its boxes: it is expanded, with a box off
-/// a goal, or its reason bars. It takes no memory.
+/// Returns whether a position may stand in a pattern; its boxes are given, too. It may if it is
+/// expanded and has a box off a goal, or if its reason bars it. It allocates nothing.
 fn may_stand(
     alloc: Global,
     setting: &Setting<'_>,
@@ -221,8 +222,9 @@ fn may_stand(
     }
 }
 
-/// Whether the state of a player and some boxes stands in a roll at depth 0, and each push from an
-/// expanded state leads to another that is at most one deeper. It refuses only for want of memory.
+/// Returns whether the state of the player and the boxes is in the roll at depth 0, and each push
+/// from an expanded state leads to a state of the roll that is at most one deeper. Errors:
+/// `Memory`.
 fn leads_on(
     alloc: Global,
     board: &Board,

@@ -1,4 +1,4 @@
-//! What a reason for barring a position promises.
+//! The trait of the reasons for barring a position.
 
 ghost use Rattle.std.specs.Prelude.{IfOk, IsTrue};
 ghost use Rattle.sok_region.specs.Regions.{IsPlaced};
@@ -12,14 +12,14 @@ use sok_distance::setting::Setting;
 use sok_rules::fault::Memory;
 use std::alloc::Global;
 
-/// A reason for barring a position: for going no further from it.
+/// A reason for barring a position, that is, for not going on from it.
 pub trait Bar {
-    /// What it says, with its numbers.
+    /// What it claims, with its numbers.
     ghost says: { Self → Barring };
 
-    /// Whether what it says is so of a position, given by the squares of its boxes and of its
-    /// player, with the distances of its board. Where it answers true, what is still to be shown is so
-    /// of each position of the same state. It refuses only for want of memory.
+    /// Returns whether its claim is true of a position, which is given by the squares of its boxes
+    /// and of its player. `setting` has the board with its distances. If it returns true, `rest` is
+    /// shown for each position of the same state. Errors: `Memory`.
     fn holds(
         &self,
         alloc: Global,

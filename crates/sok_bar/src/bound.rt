@@ -14,9 +14,9 @@ use sok_distance::setting::Setting;
 use sok_rules::fault::Memory;
 use std::alloc::Global;
 
-/// Prices of a position's boxes, in their order, and of the goals, in theirs. A box costs no more
-/// than a goal and its distance to it. So the prices of the boxes less those of all goals bound the
-/// pushes from below (weak duality of the assignment problem).
+/// Prices of a position's boxes (`u`) and of the goals (`v`), each in their order. No box costs
+/// more than a goal plus its distance to it. So the sum of the boxes' prices less that of all
+/// goals' prices bounds the pushes from below (weak duality of the assignment problem).
 #[derive(Clone, Copy, Debug)]
 pub struct Bound<'a> {
     pub u: &'a [u32],
@@ -26,8 +26,8 @@ pub struct Bound<'a> {
 impl Bar for Bound<'_> {
     ghost says = { λ bar. Barring.bound bar.u.now bar.v.now };
 
-    /// True where the lists are such prices, as many as boxes and goals, and leave as many pushes
-    /// as are asked for; never where no solution is to be shown. It takes no memory.
+    /// Returns true if the lists are such prices, as many as boxes and goals, and prove as many
+    /// pushes as `rest` asks for. False if `rest` is `Never`. It allocates nothing.
     fn holds(
         &self,
         _alloc: Global,
@@ -56,7 +56,7 @@ impl Bar for Bound<'_> {
     }
 }
 
-/// Whether no box costs more than a goal and its distance to it.
+/// Returns whether no box costs more than a goal plus its distance to it.
 fn are_fair(distances: &Distances, boxes: &[Sq], u: &[u32], v: &[u32]) -> bool
     requires boxes_exist { All (λ square. square < length distances.now.board.area) boxes.now }
     requires a_price_a_box { length u.now ≡ length boxes.now }
@@ -71,7 +71,7 @@ fn are_fair(distances: &Distances, boxes: &[Sq], u: &[u32], v: &[u32]) -> bool
     true
 }
 
-/// Whether a box costs no more than a goal and its distance to it, whatever the goal.
+/// Returns whether a box costs no more than any goal plus its distance to it.
 fn is_fair(distances: &Distances, square: Sq, price: u32, v: &[u32]) -> bool
     requires exists { square < length distances.now.board.area }
     requires a_price_a_goal { length v.now ≡ length (goals_of distances.now.board) }
@@ -85,7 +85,8 @@ fn is_fair(distances: &Distances, square: Sq, price: u32, v: &[u32]) -> bool
     true
 }
 
-/// Whether a box costs no more than one goal and its distance to it, if there is one.
+/// Returns whether a box costs no more than one goal plus its distance to it. True if it has no
+/// distance.
 fn is_affordable(
     distances: &Distances,
     goal: usize,
@@ -103,7 +104,7 @@ fn is_affordable(
     }
 }
 
-/// The sum of some prices.
+/// Returns the sum of some prices.
 fn total(prices: &[u32]) -> u64
     requires { length prices.now < 2 ^ 32 }
     ensures { result ≡ sum prices.now }

@@ -1,4 +1,4 @@
-//! Boxes that share too few goals.
+//! Boxes that reach too few goals.
 
 ghost use Rattle.std.specs.Prelude.{ℕ, List, ◌≡◌, ◌<◌, ◌≤◌, ◌↔◌, IsTrue, All, length};
 ghost use Rattle.sok_board.specs.Area.{IsAccepted, goals_of};
@@ -16,8 +16,8 @@ use sok_distance::setting::Setting;
 use sok_rules::fault::Memory;
 use std::alloc::Global;
 
-/// Boxes from which fewer goals are reached than they are: members of a position's boxes, by their
-/// indices from 0 (Hall's condition).
+/// Boxes that reach fewer goals than they are (Hall's condition): members of a position's boxes, by
+/// their indices from 0.
 #[derive(Clone, Copy, Debug)]
 pub struct Crowd<'a> {
     pub members: &'a [u32],
@@ -26,8 +26,8 @@ pub struct Crowd<'a> {
 impl Bar for Crowd<'_> {
     ghost says = { λ bar. Barring.crowd bar.members.now };
 
-    /// True where the members are rising indices of boxes that are a crowd, whatever is to be
-    /// shown. It takes no memory.
+    /// Returns true if the members are ascending indices of boxes that are a crowd, whatever `rest`
+    /// is. It allocates nothing.
     fn holds(
         &self,
         _alloc: Global,
@@ -44,7 +44,7 @@ impl Bar for Crowd<'_> {
     }
 }
 
-/// How many goals are reached from members, each alone on the board.
+/// Returns the number of goals that members reach, each alone on the board.
 fn reached_goals(distances: &Distances, boxes: &[Sq], members: &[u32]) -> usize
     requires boxes_exist { All (λ square. square < length distances.now.board.area) boxes.now }
     requires listed { AreMembers boxes.now members.now }
@@ -63,7 +63,7 @@ fn reached_goals(distances: &Distances, boxes: &[Sq], members: &[u32]) -> usize
     reached
 }
 
-/// Whether a goal is reached from a member, alone on the board.
+/// Returns whether a member reaches a goal, alone on the board.
 fn is_reached(distances: &Distances, goal: usize, boxes: &[Sq], members: &[u32]) -> bool
     requires boxes_exist { All (λ square. square < length distances.now.board.area) boxes.now }
     requires listed { AreMembers boxes.now members.now }
@@ -78,7 +78,7 @@ fn is_reached(distances: &Distances, goal: usize, boxes: &[Sq], members: &[u32])
     false
 }
 
-/// Whether a box alone on the board comes from a square to a goal.
+/// Returns whether a box alone on the board reaches a goal from a square.
 fn reaches(distances: &Distances, square: Sq, goal: usize) -> bool
     requires square_exists { square < length distances.now.board.area }
     requires goal_exists { goal < length (goals_of distances.now.board) }

@@ -1,4 +1,4 @@
-//! Boxes that hold each other for ever.
+//! Boxes that hold each other for ever: freeze deadlocks.
 
 ghost use Rattle.std.specs.Prelude.{ℕ, List, ◌≡◌, ◌<◌, ◌≤◌, ◌↔◌, IsTrue, IfOk, IfNone};
 ghost use Rattle.std.specs.Prelude.{IfSome, All, Contains, length};
@@ -24,8 +24,8 @@ use sok_region::layout::put_boxes;
 use sok_rules::fault::Memory;
 use std::alloc::Global;
 
-/// Boxes that hold each other for ever, some of them off goals: members of a position's boxes, by
-/// their indices from 0.
+/// Boxes that hold each other for ever, some of them off goals (a jam): members of a position's
+/// boxes, by their indices from 0.
 #[derive(Clone, Copy, Debug)]
 pub struct Frozen<'a> {
     pub members: &'a [u32],
@@ -34,8 +34,8 @@ pub struct Frozen<'a> {
 impl Bar for Frozen<'_> {
     ghost says = { λ bar. Barring.frozen bar.members.now };
 
-    /// True where the members are rising indices of boxes that are a jam, whatever is to be shown.
-    /// It takes no memory.
+    /// Returns true if the members are ascending indices of boxes that are a jam, whatever `rest`
+    /// is. It allocates nothing.
     fn holds(
         &self,
         _alloc: Global,
@@ -51,15 +51,15 @@ impl Bar for Frozen<'_> {
         if !has_one_off_goal(setting.board, boxes, self.members) {
             return Ok(false);
         }
-        // A board is of an accepted level, of which the law speaks.
+        // The law is about accepted levels, and a board is of one.
         prove!(setting.board.squares() <= SQUARE_LIMIT);
         Ok(are_held(setting, boxes, self.members))
     }
 }
 
-/// The members of a jam, exactly where there is one: the most boxes of which each is held by the
-/// others, if one of them stands off a goal. Boxes that are not held are taken away until there is
-/// none (Sokoban Wiki, "Deadlocks", freeze deadlocks). It refuses only for want of memory.
+/// Finds the largest jam: the most boxes that are all held by each other, provided that one of them
+/// stands off a goal. None if there is no jam. Boxes that are not held are removed until all are
+/// held (Sokoban Wiki, "Deadlocks", freeze deadlocks). Errors: `Memory`.
 pub fn find_jam(
     alloc: Global,
     setting: &Setting<'_>,
@@ -81,8 +81,8 @@ pub fn find_jam(
     Ok(None)
 }
 
-/// The members of a jam with the box on a square, exactly where there is one: those that `find_jam`
-/// finds, if that box is among them.
+/// Finds a jam with the box on a square: the one that `find_jam` finds, if that box is a member.
+/// None if there is no jam with that box.
 pub fn find_frozen(
     alloc: Global,
     setting: &Setting<'_>,
@@ -111,7 +111,7 @@ pub fn find_frozen(
     Ok(Some(members))
 }
 
-/// Whether a member stands off a goal.
+/// Returns whether a member stands off a goal.
 fn has_one_off_goal(board: &Board, boxes: &[Sq], members: &[u32]) -> bool
     requires exist { All (λ square. square < length board.now.area) boxes.now }
     requires listed { AreMembers boxes.now members.now }
@@ -125,8 +125,8 @@ fn has_one_off_goal(board: &Board, boxes: &[Sq], members: &[u32]) -> bool
     false
 }
 
-/// The most boxes of which each is held by the others: what is left of all boxes when those that
-/// are not held are taken away, until there is none.
+/// Returns the most boxes that are all held by each other: those that are left after boxes that are
+/// not held are removed, until all are held.
 fn held_members(alloc: Global, setting: &Setting<'_>, boxes: &[Sq]) -> Result<Vec<u32>, Memory>
     requires boxes { AreBoxesOn setting.now.board.now boxes.now }
     ensures jams { IfOk result (λ members. HasJams setting.now.board.now boxes.now members.items) }
@@ -143,7 +143,7 @@ fn held_members(alloc: Global, setting: &Setting<'_>, boxes: &[Sq]) -> Result<Ve
     }
 }
 
-/// The indices of the boxes that are drawn.
+/// Returns the indices of the boxes on squares of a set.
 fn drawn_members(
     alloc: Global,
     board: &Board,

@@ -16,7 +16,7 @@ use sok_distance::setting::Setting;
 use sok_field::field::Field;
 use sok_rules::cell::Dir;
 
-/// Which boxes may hold another: all of some, members of their list, or those in bit rows.
+/// Which boxes may hold another: all of a list, members of the list, or those on squares of a set.
 #[derive(Clone, Copy)]
 pub(crate) enum Holders<'a> {
     Every,
@@ -24,7 +24,7 @@ pub(crate) enum Holders<'a> {
     Drawn(&'a Field),
 }
 
-/// Whether each member is held by walls, by members or between stuck squares.
+/// Returns whether each member is held by walls, by members or between stuck squares.
 pub(crate) fn are_held(setting: &Setting<'_>, boxes: &[Sq], members: &[u32]) -> bool
     requires boxes { AreBoxesOn setting.now.board.now boxes.now }
     requires listed { AreMembers boxes.now members.now }
@@ -39,7 +39,7 @@ pub(crate) fn are_held(setting: &Setting<'_>, boxes: &[Sq], members: &[u32]) -> 
     true
 }
 
-/// Whether a box on a square is held along both axes.
+/// Returns whether a box on a square is held along both axes.
 pub(crate) fn is_held(setting: &Setting<'_>, boxes: &[Sq], holders: Holders<'_>, square: Sq) -> bool
     requires boxes { AreBoxesOn setting.now.board.now boxes.now }
     requires listed { AreHolders boxes.now holders }
@@ -51,7 +51,7 @@ pub(crate) fn is_held(setting: &Setting<'_>, boxes: &[Sq], holders: Holders<'_>,
         && is_held_along(setting, boxes, holders, square, Dir::Up)
 }
 
-/// Whether a box on a square is held along the axis of a direction.
+/// Returns whether a box on a square is held along the axis of a direction.
 fn is_held_along(
     setting: &Setting<'_>,
     boxes: &[Sq],
@@ -75,8 +75,8 @@ fn is_held_along(
     }
 }
 
-/// Whether a box between two squares of the area stays: a holder stands on one of them, or both are
-/// stuck.
+/// Returns whether a box between two squares of the area is held: a holder stands on one of them,
+/// or both are stuck.
 fn is_between(
     setting: &Setting<'_>,
     boxes: &[Sq],
@@ -98,7 +98,7 @@ fn is_between(
         || are_stuck(setting, ahead, behind)
 }
 
-/// Whether a holder stands on a square.
+/// Returns whether a holder stands on a square.
 fn is_holder(board: &Board, boxes: &[Sq], holders: Holders<'_>, square: Sq) -> bool
     requires accepted { IsAccepted board.now }
     requires exists { square < length board.now.area }
@@ -114,7 +114,7 @@ fn is_holder(board: &Board, boxes: &[Sq], holders: Holders<'_>, square: Sq) -> b
     }
 }
 
-/// Whether a square of the area is one of some.
+/// Returns whether a square of the area is in a set.
 pub(crate) fn is_drawn(board: &Board, squares: &Field, square: Sq) -> bool
     requires accepted { IsAccepted board.now }
     requires exists { square < length board.now.area }
@@ -123,7 +123,7 @@ pub(crate) fn is_drawn(board: &Board, squares: &Field, square: Sq) -> bool
     squares.has(board.spot(square))
 }
 
-/// Whether two squares are both stuck.
+/// Returns whether two squares are both stuck.
 fn are_stuck(setting: &Setting<'_>, first: Sq, second: Sq) -> bool
     requires first { first < length setting.now.board.now.area }
     requires second { second < length setting.now.board.now.area }

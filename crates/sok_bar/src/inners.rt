@@ -1,18 +1,19 @@
-//! Lists of positions of some boxes alone: whether two are the same.
+//! Lists of positions of some boxes alone: whether two are equal.
 
 ghost use Rattle.std.specs.Prelude.{◌≡◌, ◌↔◌, IsTrue};
 ghost use Rattle.sok_bar.specs.Patterns.{is_expanded};
 
 use sok_entry::entry::{Inner, InnerReason};
 
-/// Whether the reason of a position is that every push leads to another one of the list.
+/// Returns whether a position is expanded: every push from it leads to another position of the
+/// list.
 pub fn is_expanded(reason: &InnerReason) -> bool
     ensures { result ≡ is_expanded reason.now }
 {
     matches!(reason, InnerReason::Expanded)
 }
 
-/// Whether two lists have the same positions.
+/// Returns whether two lists have equal positions.
 pub(crate) fn are_same(inner: &[Inner], other: &[Inner]) -> bool
     ensures { IsTrue result ↔ (inner.now ≡ other.now) }
 {
@@ -27,7 +28,7 @@ pub(crate) fn are_same(inner: &[Inner], other: &[Inner]) -> bool
     true
 }
 
-/// Whether two positions are the same, with their depths and reasons.
+/// Returns whether two positions are equal, with their depths and reasons.
 fn is_same(one: &Inner, other: &Inner) -> bool
     ensures { IsTrue result ↔ (one.now ≡ other.now) }
 {
@@ -37,7 +38,7 @@ fn is_same(one: &Inner, other: &Inner) -> bool
         && is_same_reason(&one.reason, &other.reason)
 }
 
-/// Whether two reasons are the same, with their members.
+/// Returns whether two reasons are equal, with their members.
 fn is_same_reason(one: &InnerReason, other: &InnerReason) -> bool
     ensures { IsTrue result ↔ (one.now ≡ other.now) }
 {

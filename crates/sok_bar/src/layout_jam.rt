@@ -13,9 +13,9 @@ use sok_distance::setting::Setting;
 use sok_field::field::Field;
 use sok_region::layout::Layout;
 
-/// Whether the boxes of a layout have a jam with the box on a square: exactly where `find_frozen`
-/// finds one. Most boxes are free where they stand; only else boxes are taken away that are not
-/// held, until there is none. It takes no memory.
+/// Returns whether the boxes of a layout have a jam with the box on a square: true exactly if
+/// `find_frozen` finds one. Most boxes are not held where they stand, which settles it. Otherwise
+/// boxes that are not held are removed until all are held. It allocates nothing.
 pub fn has_jam(setting: &Setting<'_>, layout: &Layout, square: Sq) -> bool
     requires accepted { IsAccepted setting.now.board.now }
     requires exists { square < length setting.now.board.now.area }
@@ -29,8 +29,8 @@ pub fn has_jam(setting: &Setting<'_>, layout: &Layout, square: Sq) -> bool
     has_held_jam(setting, layout, square)
 }
 
-/// The same, where the box is held as all boxes stand. It stands apart, so that nothing has a set of
-/// squares to clear where the box is free.
+/// Like `has_jam`, for a box that is held by all boxes as they stand. It is a function of its own,
+/// so that no set of squares has to be cleared for a box that is not held.
 #[cold]
 fn has_held_jam(setting: &Setting<'_>, layout: &Layout, square: Sq) -> bool
     requires accepted { IsAccepted setting.now.board.now }
@@ -45,8 +45,8 @@ fn has_held_jam(setting: &Setting<'_>, layout: &Layout, square: Sq) -> bool
         && has_off_goal(setting.board, layout.boxes(), &held)
 }
 
-/// Takes boxes away that are not held by those that are left, until there is none, or until the one
-/// on a square is taken. Tells whether that one stays.
+/// Removes boxes that are not held by those that are left, until all are held or the box on
+/// `square` is removed. Returns whether that box is left.
 fn narrow(setting: &Setting<'_>, boxes: &[Sq], square: Sq, held: &mut Field) -> bool
     requires accepted { IsAccepted setting.now.board.now }
     requires exist { All (λ square. square < length setting.now.board.now.area) boxes.now }
@@ -63,7 +63,7 @@ fn narrow(setting: &Setting<'_>, boxes: &[Sq], square: Sq, held: &mut Field) -> 
     }
 }
 
-/// Takes each of some boxes away that is not held by those that are left. Tells whether there was
+/// Removes each box of a list that is not held by those that are left. Returns whether there was
 /// one.
 pub(crate) fn take_loose(setting: &Setting<'_>, boxes: &[Sq], held: &mut Field) -> bool
     requires accepted { IsAccepted setting.now.board.now }
@@ -78,7 +78,7 @@ pub(crate) fn take_loose(setting: &Setting<'_>, boxes: &[Sq], held: &mut Field) 
     taken
 }
 
-/// Takes a box away, if it is not held by those that are left. Tells whether it was.
+/// Removes a box if it is not held by those that are left. Returns whether it was removed.
 fn take_if_loose(setting: &Setting<'_>, square: Sq, held: &mut Field) -> bool
     requires accepted { IsAccepted setting.now.board.now }
     requires exists { square < length setting.now.board.now.area }
@@ -94,7 +94,7 @@ fn take_if_loose(setting: &Setting<'_>, square: Sq, held: &mut Field) -> bool
     true
 }
 
-/// Whether one of some boxes that are left stands off a goal.
+/// Returns whether a box that is left stands off a goal.
 fn has_off_goal(board: &Board, boxes: &[Sq], held: &Field) -> bool
     requires accepted { IsAccepted board.now }
     requires exist { All (λ square. square < length board.now.area) boxes.now }

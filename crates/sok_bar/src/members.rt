@@ -8,7 +8,7 @@ ghost use Rattle.sok_price.specs.Prices.{AreMembers, IsMember};
 use sok_board::area::Sq;
 use sok_closed::placing::rises;
 
-/// Whether the numbers are indices of boxes, each above the one before.
+/// Returns whether the numbers are indices of boxes, in strictly ascending order.
 pub(crate) fn are_members(boxes: &[Sq], members: &[u32]) -> bool
     ensures { IsTrue result ↔ AreMembers boxes.now members.now }
 {
@@ -18,7 +18,7 @@ pub(crate) fn are_members(boxes: &[Sq], members: &[u32]) -> bool
             .all(|member| (*member as usize) < boxes.len())
 }
 
-/// Whether a member stands on a square.
+/// Returns whether a member stands on a square.
 pub(crate) fn is_member(boxes: &[Sq], members: &[u32], square: Sq) -> bool
     requires rising { IsStrictlyIncreasing boxes.now }
     requires few { length boxes.now ≤ box_limit }

@@ -1,4 +1,4 @@
-//! Lists of positions that were found closed, kept while more are judged.
+//! A memo of lists of positions that were found closed.
 
 ghost use Rattle.std.specs.Prelude.{◌≡◌, ◌↔◌, Contains, IfOk, IsTrue};
 ghost use Rattle.sok_board.specs.Area.{IsAccepted, BoardView};
@@ -16,10 +16,10 @@ use sok_rules::fault::Memory;
 use sok_state::key::Key;
 use std::alloc::Global;
 
-/// The most lists that are kept. All of them are looked through, so they are few.
+/// The most lists that are kept. They are few, since a look-up goes through all of them.
 const LISTS: usize = 256;
 
-/// The most positions that are kept, those of all lists together.
+/// The most positions that are kept, in all lists together.
 const POSITIONS: usize = 65_536;
 
 /// A state of some boxes alone, and positions that are closed under pushes from there.
@@ -30,7 +30,7 @@ struct Kept {
 }
 
 impl Kept {
-    /// Whether it is this list, kept for this state.
+    /// Returns whether this is the list `inner`, kept for the state `key`.
     fn is(&self, key: &Key, inner: &Inners) -> bool
         ensures { IsTrue result ↔ (self.now ≡ record { key = key.now; inner = inner.now }) }
     {
@@ -38,8 +38,9 @@ impl Kept {
     }
 }
 
-/// Lists of positions of boxes alone that were judged and found closed. The patterns of a
-/// certificate mostly have few, which come again and again: one that is kept is not judged again.
+/// Lists of positions of boxes alone that were checked and found closed. A certificate mostly has
+/// few different ones, which recur in many of its patterns; a list that is kept is not checked
+/// again.
 #[derive(Drop)]
 pub struct Memo {
     lists: Vec<Kept>,
@@ -48,7 +49,7 @@ pub struct Memo {
 }
 
 impl Memo {
-    /// No list is kept. It keeps the allocator for those that come.
+    /// Returns a memo without lists. It keeps the allocator for later ones.
     pub fn new(alloc: Global) -> Memo
         ensures { (b : BoardView) → KeepsClosed b result }
     {
@@ -58,9 +59,9 @@ impl Memo {
         }
     }
 
-    /// Whether positions of some boxes alone are closed under pushes, that of a player among them at
-    /// depth 0. Those that are not kept for this state are judged, and kept if they are closed. It
-    /// refuses only for want of memory.
+    /// Returns whether positions of some boxes alone are closed under pushes, with the player's
+    /// position among them at depth 0. A list that is not kept for this state is checked, and kept
+    /// if it is closed and there is room. Errors: `Memory`.
     pub(crate) fn are_closed_alone(
         &mut self,
         alloc: Global,
@@ -88,7 +89,7 @@ impl Memo {
         Ok(true)
     }
 
-    /// Whether a list is kept for a state.
+    /// Returns whether a list is kept for a state.
     fn has(&self, key: &Key, inner: &Inners) -> bool
         ensures { IsTrue result
             ↔ Contains self.now.lists.items (record { key = key.now; inner = inner.now }) }
@@ -101,7 +102,7 @@ impl Memo {
         false
     }
 
-    /// Keeps a list for a state, while there is room.
+    /// Keeps a list for a state, if there is room for it.
     fn keep(&mut self, key: Key, inner: &Inners) -> Result<(), Memory>
         ensures { (b : BoardView) → IsClosedKept b (record { key = key; inner = inner.now })
             → KeepsClosed b self.old → KeepsClosed b self.new }

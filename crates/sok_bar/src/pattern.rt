@@ -1,4 +1,4 @@
-//! Boxes that are never solved, taken alone.
+//! Boxes that are never solved, even alone on the board.
 
 ghost use Rattle.std.specs.Prelude.{◌≡◌, ◌≤◌, ◌↔◌, IsTrue, IfOk, length};
 ghost use Rattle.std.specs.List.Sorted.{IsStrictlyIncreasing};
@@ -20,9 +20,9 @@ use sok_entry::inners::Inners;
 use sok_rules::fault::Memory;
 use std::alloc::Global;
 
-/// Boxes that are never solved from where the player stands, were they alone on the board: members
-/// of a position's boxes, by their indices from 0, and positions of them that are closed under
-/// pushes.
+/// Boxes that would never be solved from where the player stands, if they were alone on the board:
+/// members of a position's boxes, by their indices from 0, and positions of them that are closed
+/// under pushes.
 #[derive(Clone, Copy)]
 pub struct Pattern<'a> {
     pub members: &'a [u32],
@@ -32,9 +32,9 @@ pub struct Pattern<'a> {
 impl Bar for Pattern<'_> {
     ghost says = { λ bar. Barring.pattern bar.members.now bar.inner.now };
 
-    /// True where the members are rising indices of boxes, and the positions are closed under
-    /// pushes, that of the player and of these boxes among them at depth 0, whatever is to be
-    /// shown. It refuses only for want of memory.
+    /// Returns true if the members are ascending indices of boxes, and the positions are closed
+    /// under pushes, with that of the player and these boxes among them at depth 0, whatever `rest`
+    /// is. Errors: `Memory`.
     fn holds(
         &self,
         alloc: Global,
@@ -43,7 +43,7 @@ impl Bar for Pattern<'_> {
         player: Sq,
         rest: Rest,
     ) -> Result<bool, Memory> {
-        // A board is of an accepted level, of which the law speaks.
+        // The law is about accepted levels, and a board is of one.
         let _squares = setting.board.squares();
         let mut memo = Memo::new(alloc);
         self.holds_by(alloc, setting, boxes, player, &mut memo)
@@ -51,8 +51,8 @@ impl Bar for Pattern<'_> {
 }
 
 impl Pattern<'_> {
-    /// True where the reason holds, whatever is to be shown. Positions that the memo keeps are not
-    /// judged again, and it keeps those that are judged. It refuses only for want of memory.
+    /// Returns whether the reason holds, whatever is to be shown. Lists of positions that the memo
+    /// keeps are not checked again, and the memo keeps those that are checked. Errors: `Memory`.
     pub(crate) fn holds_by(
         &self,
         alloc: Global,
@@ -79,7 +79,7 @@ impl Pattern<'_> {
     }
 }
 
-/// The boxes that are members, as a set of their own. It refuses only for want of memory.
+/// Returns the boxes that are members, as a set of their own. Errors: `Memory`.
 fn members_alone(alloc: Global, boxes: &[Sq], members: &[u32]) -> Result<BoxSet, Memory>
     requires rising { IsStrictlyIncreasing boxes.now }
     requires few { length boxes.now ≤ box_limit }

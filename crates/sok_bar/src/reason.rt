@@ -21,9 +21,9 @@ use sok_entry::entry::Reason;
 use sok_rules::fault::Memory;
 use std::alloc::Global;
 
-/// Whether the reason that is named holds, with its numbers; never for an expanded entry. The memo of
-/// the board keeps positions of patterns that hold, and does not judge them again. It refuses only
-/// for want of memory, and only where the reason is a pattern.
+/// Returns whether a reason holds, with its numbers; false for an expanded entry. Positions of
+/// patterns that the board's memo keeps are not checked again. Errors: `Memory`, only if the reason
+/// is a pattern.
 pub fn reason_holds(
     alloc: Global,
     reason: &Reason,

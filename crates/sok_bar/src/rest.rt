@@ -1,11 +1,11 @@
 //! What is still to be shown of a position.
 
-/// What is still to be shown of a position: that each list of letters that solves from there has at
-/// least so many pushes, or that no list solves.
+/// What is still to be shown of a position: that each solution from there has at least so many
+/// pushes, or that there is none.
 #[derive(Clone, Copy, Debug, PartialEq, Eq)]
 pub enum Rest {
-    /// At least so many pushes are needed.
+    /// Each solution has at least so many pushes.
     AtLeast(u32),
-    /// Nothing solves.
+    /// There is no solution.
     Never,
 }

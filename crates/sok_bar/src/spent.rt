@@ -12,14 +12,15 @@ use sok_distance::setting::Setting;
 use sok_rules::fault::Memory;
 use std::alloc::Global;
 
-/// The pushes that are asked for are spent: each list of letters has at least 0.
+/// No more pushes are asked for: each solution has at least 0.
 #[derive(Clone, Copy, PartialEq, Eq)]
 pub struct Spent;
 
 impl Bar for Spent {
     ghost says = { λ _. Barring.spent };
 
-    /// True for at least 0 pushes, and for nothing else, of any position. It takes no memory.
+    /// Returns true if at least 0 pushes are to be shown, whatever the position, and otherwise
+    /// false. It allocates nothing.
     fn holds(
         &self,
         _alloc: Global,

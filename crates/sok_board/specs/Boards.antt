@@ -1,4 +1,4 @@
--- What is kept of an accepted level beside its squares.
+-- What a board stores of an accepted level in addition to its squares.
 use Rattle.std.specs.Prelude.{◌≡◌, Some, None, map, length}
 use Rattle.sok_rules.specs.declared.cell.Spot.{Spot}
 use Rattle.sok_rules.specs.Levels.{trimmed}
@@ -9,7 +9,7 @@ use Rattle.sok_board.specs.Neighbours.{neighbours_of}
 use Rattle.sok_board.specs.Spans.{Covers}
 use Rattle.sok_board.specs.Tables.{entry}
 
--- the squares of an accepted level by number and numbers by square, its spans, goals, player and boxes
+-- the numbering of an accepted level is right: the numbers of its squares and their neighbours, its spans, goals, player and boxes
 pub record IsNumbering (b : BoardView) (kept : Numbering) : Type 0 where
   pub accepted : IsAccepted b
   pub trimmed : map trimmed b.rows ≡ b.rows

@@ -1,4 +1,4 @@
--- How faults are printed: their numbers, and their names with their arguments, each after one space.
+-- How faults are printed: the number of each, and its name, followed by its arguments, each after one space.
 use Rattle.std.specs.Prelude.{ℕ, List, ◌++◌, codes}
 use Rattle.std.specs.Fmt.{decimal}
 use Rattle.sok_rules.specs.declared.cell.Spot.{Spot}
@@ -13,7 +13,7 @@ board_fault_number TooLarge = 9
 board_fault_number TooManyBoxes = 10
 board_fault_number Memory = 40
 
--- a row and a column, as arguments
+-- a row and a column, as they are printed in arguments
 abbrev pub spot_words : Spot → List ℕ
 spot_words spot = decimal spot.row ++ codes " " ++ decimal spot.col
 

@@ -1,4 +1,4 @@
--- The squares of a level without a wall as a graph, each by its place in a table.
+-- The open squares of a level as a graph, each numbered by its place in a table.
 use Rattle.std.specs.Prelude.{ℕ, ◌/◌, ◌%◌, Option, Some, None, length, if◌then◌else◌}
 use Rattle.std.specs.Option.{option_and_then}
 use Rattle.sok_rules.specs.declared.cell.Dir.{Dir}
@@ -8,11 +8,11 @@ use Rattle.sok_rules.specs.Play.{start}
 use Rattle.sok_board.specs.Graphs.{Graph}
 use Rattle.sok_board.specs.Tables.{table_side, table_places, place_of}
 
--- the square of a place
+-- the square of a place in a table
 abbrev pub square_at : ℕ → Spot
 square_at n = record { row = n / table_side; col = n % table_side }
 
--- a letter leads to the square beside, where no wall stands there
+-- a letter leads to the next square in its direction, if no wall stands there
 abbrev pub floor_way : Rows → Dir → ℕ → Option ℕ
 floor_way rows d n = option_and_then (λ t. if holds is_open rows t then Some (place_of t) else None) (next d (square_at n))
 

@@ -1,4 +1,4 @@
--- words of public contracts
+-- definitions that public contracts use
 pub mod Area
 pub mod BoxSets
 pub mod Confined
@@ -7,7 +7,7 @@ pub mod Graphs
 pub mod Limits
 pub mod Refusals
 pub mod Spans
--- the proof's own: what is kept of a level, and the search that finds its area
+-- definitions for the proofs alone: what a board stores of a level, and the search that finds its area
 pub mod Boards
 pub mod Floors
 pub mod Neighbours

@@ -1,4 +1,4 @@
--- Why a level is not accepted: the first cause in the order of refusal, and the first square of that cause.
+-- Why a level is not accepted: the first reason in the order of the tests, and the first square to which it applies.
 use Rattle.std.specs.Prelude.{ℕ, ◌<◌, ◌≤◌, List, [], ◌∷◌, Bool, false, IsTrue, not, length, is_some}
 use Rattle.std.specs.List.{list_any}
 use Rattle.std.specs.Option.{option_map_or}
@@ -34,11 +34,11 @@ pub record IsTidy (b : BoardView) : Type 0 where
   pub few_squares : length b.area ≤ square_limit
   pub no_stray : (s : Spot) → IsStray b.rows s → ⊥
 
--- a fact of a level and its area
+-- a property of a level with its area
 abbrev pub OfArea : (BoardView → Type 0) → Rows → Type 0
 OfArea P rows = (area : List Spot) × IsArea rows area × P (record { rows = rows; area = area })
 
--- the cause that a fault names holds, and no earlier one does
+-- the reason that a fault names applies, and no earlier one does
 abbrev pub IsRefused : Rows → BoardFault → Type 0
 IsRefused rows (NotEnclosed s) = IsFirst (IsLeak rows) s
 IsRefused rows TooLarge = IsEnclosed rows × OfArea (λ b. square_limit < length b.area) rows
@@ -47,7 +47,7 @@ IsRefused rows TooManyBoxes = OfArea (λ b. IsTidy b × (box_limit < length (box
 IsRefused rows TooFewGoals = OfArea (λ b. IsTidy b × (length (boxes_of b) ≤ box_limit) × (length (goals_of b) < length (boxes_of b))) rows
 IsRefused rows Memory = Unit {0}
 
--- a level of which a board can be made, up to these limits
+-- a level of which a board can be made, within these limits
 abbrev pub IsAcceptableIn : ℕ → ℕ → Rows → Type 0
 IsAcceptableIn size squares rows = (area : List Spot) × IsAcceptedIn size squares (record { rows = rows; area = area })
 

@@ -21,17 +21,17 @@ use sok_rules::fault::Memory;
 use sok_rules::level::Level;
 use std::alloc::Global;
 
-/// The number of a square of the area, from 0, row by row and from left to right.
+/// The number of a square of the area, counted from 0, row by row and from left to right.
 pub type Sq = u16;
 
-/// The most squares that an area has.
+/// The maximum number of squares in an area.
 pub const SQUARE_LIMIT: usize = 4096;
 
-/// The most boxes that an area has.
+/// The maximum number of boxes in an area.
 pub const BOX_LIMIT: usize = 128;
 
-/// The squares of a level's area, row by row and from left to right: those to which a breadth
-/// first search from the player's square comes.
+/// Finds the squares of a level's area, row by row and from left to right: those that a
+/// breadth-first search from the player's square reaches.
 pub(crate) fn squares(alloc: Global, level: &Level, spots: &[Spot]) -> Result<Vec<Spot>, Memory>
     requires proper { IsProper level.now }
     requires places { spots.now ≡ places level.now }
@@ -42,7 +42,7 @@ pub(crate) fn squares(alloc: Global, level: &Level, spots: &[Spot]) -> Result<Ve
     keep_found(alloc, spots, &found.depths)
 }
 
-/// Those of some squares that have a depth in a table.
+/// Returns those of the squares that have a depth in a table.
 fn keep_found(alloc: Global, spots: &[Spot], depths: &[Option<u16>]) -> Result<Vec<Spot>, Memory>
     ensures { IfOk result
         (λ kept. kept.items ≡ filter (λ s. is_some (entry None depths.now s)) spots.now) }
@@ -55,7 +55,7 @@ fn keep_found(alloc: Global, spots: &[Spot], depths: &[Option<u16>]) -> Result<V
     Ok(kept)
 }
 
-/// A table of the squares' numbers, which lie in a level's rows.
+/// Makes a table of the numbers of `squares`, which lie in the rows of the level.
 pub(crate) fn numbers(
     alloc: Global,
     level: &Level,
@@ -74,8 +74,8 @@ pub(crate) fn numbers(
     Ok(numbers)
 }
 
-/// The numbers of the squares on which something stands that passes a test, rising. A wall is to
-/// fail it.
+/// Returns the numbers of the squares whose cell passes a test, in ascending order. A wall must
+/// fail the test.
 pub(crate) fn numbers_where<F: Fn(Cell) -> bool>(
     alloc: Global,
     level: &Level,
@@ -98,7 +98,7 @@ pub(crate) fn numbers_where<F: Fn(Cell) -> bool>(
     Ok(numbers)
 }
 
-/// Whether all of some squares of the area are goals.
+/// Returns whether all of these squares of the area are goals.
 pub(crate) fn all_goals(level: &Level, area: &[Spot], squares: &[Sq]) -> bool
     requires { All (λ square. square < length area.now) squares.now }
     ensures { IsTrue result

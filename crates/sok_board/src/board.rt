@@ -26,8 +26,8 @@ use std::alloc::Global;
 use std::marker::Model;
 
 /// A level with its area: the squares, apart from walls, to which the player could walk if there
-/// were no boxes. They are numbered row by row and from left to right, from 0. A board is seen as
-/// the rows of its level and the squares of the area in order.
+/// were no boxes. They are numbered from 0, row by row and from left to right. Contracts see a
+/// board as the rows of its level and the squares of the area in order.
 #[derive(Drop)]
 pub struct Board {
     level: Level,
@@ -48,10 +48,12 @@ impl Model for Board {
 }
 
 impl Board {
-    /// Makes a board of a level, of which it keeps a copy. Refused are, in this order: an area of
-    /// which a square has a neighbour in no row (the first such square, row by row), an area of
-    /// more than 4,096 squares, a box outside the area and off a goal (the first such box), more
-    /// than 128 boxes in the area, and fewer goals than boxes there.
+    /// Makes a board of a level, of which it keeps a copy.
+    ///
+    /// Errors, in this order: `NotEnclosed` with the first square of the area, row by row, that has
+    /// a neighbour in no row; `TooLarge` if the area has more than 4,096 squares; `BoxOutside` with
+    /// the first box that stands outside the area and off a goal; `TooManyBoxes` if the area has
+    /// more than 128 boxes; `TooFewGoals` if it has fewer goals than boxes. `Memory` at any time.
     pub fn new(alloc: Global, level: &Level) -> Result<Board, BoardFault>
         ensures rows { IfOk result (λ board. board.rows ≡ level.now) }
         ensures accepted { IfOk result IsAccepted }
@@ -60,7 +62,7 @@ impl Board {
         board_of(alloc, level)
     }
 
-    /// The level, as `new` was given it.
+    /// Returns the level of which the board was made.
     pub fn level(&self) -> &Level
         ensures level { result.now ≡ self.now.rows }
         ensures trimmed { map trimmed self.now.rows ≡ self.now.rows }
@@ -69,7 +71,7 @@ impl Board {
         &self.level
     }
 
-    /// How many squares the area has.
+    /// Returns the number of squares of the area.
     pub fn squares(&self) -> usize
         ensures count { result ≡ length self.now.area }
         ensures accepted { IsAccepted self.now }
@@ -77,7 +79,7 @@ impl Board {
         self.squares.len()
     }
 
-    /// The squares of the area, row by row, as spans of squares that lie side by side.
+    /// Returns the squares of the area, row by row, as spans of squares that lie side by side.
     pub fn spans(&self) -> &[Span]
         ensures spans { Covers self.now 0 result.now (length self.now.area) }
         ensures accepted { IsAccepted self.now }
@@ -85,7 +87,7 @@ impl Board {
         &self.numbering.spans
     }
 
-    /// The squares of the area that are goals, rising.
+    /// Returns the squares of the area that are goals, in ascending order.
     pub fn goals(&self) -> &[Sq]
         ensures goals { result.now ≡ goals_of self.now }
         ensures rising { IsStrictlyIncreasing result.now }
@@ -95,7 +97,8 @@ impl Board {
         &self.numbering.goals
     }
 
-    /// The square on which the player starts, and those on which the area's boxes start, rising.
+    /// Returns the square on which the player starts, and those on which the boxes of the area
+    /// start, in ascending order.
     pub fn start(&self) -> (Sq, &[Sq])
         ensures player { Some result.0 ≡ number_of self.now (start self.now.rows).man }
         ensures boxes { result.1.now ≡ boxes_of self.now }
@@ -109,7 +112,7 @@ impl Board {
         (self.numbering.player, &self.numbering.boxes)
     }
 
-    /// The number of a square, and None outside the area.
+    /// Returns the number of a square. `None` outside the area.
     pub fn square(&self, spot: Spot) -> Option<Sq>
         ensures number { result ≡ number_of self.now spot }
         ensures inverse { IfSome result
@@ -118,7 +121,7 @@ impl Board {
         table::entry(&self.numbering.numbers, spot, None)
     }
 
-    /// The square of the area beside one in a direction, and None at a wall.
+    /// Returns the next square of the area in a direction. `None` at a wall.
     pub fn neighbour(&self, square: Sq, dir: Dir) -> Option<Sq>
         requires { square < length self.now.area }
         ensures beside { result ≡ beside self.now square dir }
@@ -131,7 +134,7 @@ impl Board {
         self.numbering.neighbours[square as usize].towards(dir)
     }
 
-    /// Whether a square of the area is a goal.
+    /// Returns whether a square of the area is a goal.
     pub fn is_goal(&self, square: Sq) -> bool
         requires { square < length self.now.area }
         ensures goal { result ≡ holds is_goal self.now.rows (spot_of self.now square) }
@@ -140,7 +143,7 @@ impl Board {
         cell_or_wall(&self.level, self.spot(square)).is_goal()
     }
 
-    /// Whether all of some squares of the area are goals.
+    /// Returns whether all of these squares of the area are goals.
     pub fn are_goals(&self, squares: &[Sq]) -> bool
         requires { All (λ square. square < length self.now.area) squares.now }
         ensures goals { IsTrue result ↔ AreGoals self.now squares.now }
@@ -149,7 +152,7 @@ impl Board {
         area::all_goals(&self.level, &self.squares, squares)
     }
 
-    /// Where a square of the area lies.
+    /// Returns where a square of the area lies.
     pub fn spot(&self, square: Sq) -> Spot
         requires { square < length self.now.area }
         ensures spot { result ≡ spot_of self.now square }
@@ -160,7 +163,7 @@ impl Board {
     }
 }
 
-/// The board of a level, or the first cause for which there is none.
+/// Makes the board of a level, or returns the first fault.
 fn board_of(alloc: Global, level: &Level) -> Result<Board, BoardFault>
     ensures rows { IfOk result (λ board. board.rows ≡ level.now) }
     ensures accepted { IfOk result IsAccepted }

@@ -11,7 +11,7 @@ use sok_rules::fault::Memory;
 use std::alloc::Global;
 use std::marker::Model;
 
-/// The squares of at most 128 boxes, rising. Up to 16 of them are kept without an allocation.
+/// The squares of at most 128 boxes, in ascending order. Up to 16 are stored without an allocation.
 #[derive(Drop)]
 pub struct BoxSet {
     squares: SmallVec<Sq, 16>,
@@ -29,7 +29,7 @@ impl Model for BoxSet {
 }
 
 impl BoxSet {
-    /// The set of some squares. It refuses only for want of memory.
+    /// Makes the set of these squares. Fails only if memory is refused.
     pub fn of(alloc: Global, squares: &[Sq]) -> Result<BoxSet, Memory>
         requires rising { IsStrictlyIncreasing squares.now }
         requires few { length squares.now ≤ box_limit }
@@ -39,7 +39,7 @@ impl BoxSet {
         Ok(BoxSet { squares })
     }
 
-    /// The set of some squares, of which the numbers are given. It refuses only for want of memory.
+    /// Makes the set of the squares with these numbers. Fails only if memory is refused.
     pub fn numbered(alloc: Global, numbers: &[u32]) -> Result<BoxSet, Memory>
         requires small { All (λ number. number < square_limit) numbers.now }
         requires rising { IsStrictlyIncreasing numbers.now }
@@ -53,14 +53,14 @@ impl BoxSet {
         Ok(BoxSet { squares })
     }
 
-    /// The same set once more. It refuses only for want of memory.
+    /// Returns a copy of the set. Fails only if memory is refused.
     pub fn copy(&self, alloc: Global) -> Result<BoxSet, Memory>
         ensures same { IfOk result (λ set. set ≡ self.now) }
     {
         BoxSet::of(alloc, self.list())
     }
 
-    /// The squares, rising.
+    /// Returns the squares, in ascending order.
     pub fn list(&self) -> &[Sq]
         ensures list { result.now ≡ self.now }
         ensures rising { IsStrictlyIncreasing self.now }
@@ -69,15 +69,15 @@ impl BoxSet {
         self.squares.as_slice()
     }
 
-    /// Whether a square is in the set.
+    /// Returns whether a square is in the set.
     pub fn has(&self, square: Sq) -> bool
         ensures { IsTrue result ↔ Contains self.now square }
     {
         self.list().contains(&square)
     }
 
-    /// The set after a push: without the square that a box has left, and with the one to which it
-    /// has come. It refuses only for want of memory.
+    /// Returns the set after a push, which moves a box from one square to another. Fails only if
+    /// memory is refused.
     pub fn moved(&self, alloc: Global, from: Sq, to: Sq) -> Result<BoxSet, Memory>
         requires from { Contains self.now from }
         requires to { Contains self.now to → ⊥ }
@@ -90,7 +90,7 @@ impl BoxSet {
     }
 }
 
-/// The rising list without one square and with another.
+/// Returns an ascending list without the square `from` and with the square `to`.
 fn put_in_order(alloc: Global, list: &[Sq], from: Sq, to: Sq) -> Result<SmallVec<Sq, 16>, Memory>
     ensures { IfOk result (λ after. after.items ≡ put_in_order from to list.now) }
 {

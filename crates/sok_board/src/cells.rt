@@ -8,7 +8,7 @@ ghost use Rattle.sok_rules.specs.declared.cell.Cell.TheVariants.{Wall};
 use sok_rules::cell::{Cell, Spot};
 use sok_rules::level::Level;
 
-/// What stands on a square, and a wall where no row has the square.
+/// Returns what stands on a square. It is a wall if no row has the square.
 pub(crate) fn cell_or_wall(level: &Level, spot: Spot) -> Cell
     ensures { (test : Cell → Bool) → test Wall ≡ false → test result ≡ holds test level.now spot }
 {

@@ -10,12 +10,13 @@ use std::alloc::{AllocError, AllocFailed};
 use std::fmt;
 use thiserror::Error;
 
-/// Why no board is made of a level. It is displayed as its name and its arguments.
+/// Why no board is made of a level. It is displayed as its name, followed by its arguments if it
+/// has any.
 #[derive(Clone, Copy, Debug, PartialEq, Eq, Error)]
 pub enum BoardFault {
-    /// The first square of the area, row by row, that has a neighbour in no row.
+    /// The area is not enclosed: its first square, row by row, that has a neighbour in no row.
     NotEnclosed(Spot),
-    /// The first box, row by row, that stands outside the area and off a goal.
+    /// A box stands outside the area and off a goal: the first such box, row by row.
     BoxOutside(Spot),
     /// The area has fewer goals than boxes.
     TooFewGoals,
@@ -28,7 +29,7 @@ pub enum BoardFault {
 }
 
 impl BoardFault {
-    /// The number by which the fault is printed.
+    /// Returns the number with which the fault is printed.
     pub fn number(&self) -> u8
         ensures { result ≡ board_fault_number self.now }
     {

@@ -1,4 +1,4 @@
-//! The squares of a level without a wall as nodes of a search, from the player's square on.
+//! The open squares of a level as the nodes of a search that starts at the player's square.
 
 ghost use Rattle.std.specs.Prelude.{◌≡◌};
 ghost use Rattle.sok_rules.specs.Levels.{IsProper};
@@ -11,7 +11,7 @@ use crate::table;
 use sok_rules::cell::{Dir, Spot};
 use sok_rules::level::Level;
 
-/// The squares of a level on which no wall stands, by their places in a table.
+/// The open squares of a level, on which no wall stands, numbered by their places in a table.
 #[derive(Drop)]
 pub(crate) struct Floor<'a> {
     pub(crate) level: &'a Level,
@@ -40,7 +40,7 @@ impl Ways for Floor<'_> {
     }
 }
 
-/// The square of a place in a table.
+/// Returns the square of a place in a table.
 fn square_at(place: u16) -> Spot
     ensures { result ≡ square_at place }
 {

@@ -1,4 +1,4 @@
-//! Laws of levels and of their areas: play stays in the area, and a refusal is one.
+//! Laws of levels and their areas: play stays in the area, and a level has at most one fault.
 
 ghost use Rattle.std.specs.Prelude.{◌≡◌, ◌≢◌};
 ghost use Rattle.sok_rules.specs.Squares.{Rows};
@@ -14,8 +14,8 @@ pub fn play_is_confined()
     ensures decorations { (b : BoardView) → IsArea b.rows b.area → KeepsDecorations b }
 {}
 
-/// A level is refused for one cause at most, and no refused level is accepted. An accepted one has
-/// one area.
+/// Apart from `Memory`, a level is refused for at most one reason, and no refused level is
+/// accepted. An accepted level has one area.
 pub fn levels_have_one_refusal()
     ensures one { (rows : Rows) (f g : BoardFault) → f ≢ Memory → g ≢ Memory
         → IsRefused rows f → IsRefused rows g → f ≡ g }

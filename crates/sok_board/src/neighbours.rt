@@ -1,4 +1,4 @@
-//! The numbers of the squares beside each square of an area.
+//! The numbers of the squares next to each square of an area.
 
 ghost use Rattle.std.specs.Prelude.{◌≡◌, IfOk, All, map};
 ghost use Rattle.sok_board.specs.Neighbours.{number_towards, number_beside, neighbours_of};
@@ -10,7 +10,7 @@ use sok_rules::cell::{Dir, Spot};
 use sok_rules::fault::Memory;
 use std::alloc::Global;
 
-/// The numbers of the squares beside one, and None where a square has no number.
+/// The numbers of the four squares next to one. `None` if a square has no number.
 #[derive(Clone, Copy)]
 pub(crate) struct Neighbours {
     pub(crate) left: Option<Sq>,
@@ -32,7 +32,7 @@ impl Neighbours {
     }
 }
 
-/// The neighbours of each of some squares, by a table of numbers.
+/// Returns the neighbours of each of these squares, from a table of numbers.
 pub(crate) fn list_neighbours(
     alloc: Global,
     squares: &[Spot],
@@ -48,7 +48,7 @@ pub(crate) fn list_neighbours(
     Ok(list)
 }
 
-/// The neighbours of a square.
+/// Returns the neighbours of a square.
 fn look_around(numbers: &[Option<Sq>], spot: Spot) -> Neighbours
     requires { HasPlace spot }
     ensures { result ≡ neighbours_of numbers.now spot }
@@ -61,7 +61,7 @@ fn look_around(numbers: &[Option<Sq>], spot: Spot) -> Neighbours
     }
 }
 
-/// The number of the square in a direction from a square.
+/// Returns the number of the next square in a direction.
 fn look_beside(numbers: &[Option<Sq>], spot: Spot, dir: Dir) -> Option<Sq>
     requires { HasPlace spot }
     ensures { result ≡ number_beside numbers.now spot dir }

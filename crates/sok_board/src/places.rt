@@ -12,7 +12,7 @@ use sok_rules::fault::Memory;
 use sok_rules::level::Level;
 use std::alloc::Global;
 
-/// The squares at which rows have cells, row by row and from left to right.
+/// Returns the squares at which rows have cells, row by row and from left to right.
 pub(crate) fn places(alloc: Global, rows: &[Vec<Cell>]) -> Result<Vec<Spot>, Memory>
     requires { IsProper (cells_of rows.now) }
     ensures { IfOk result (λ spots. spots.items ≡ places (cells_of rows.now)) }
@@ -24,7 +24,7 @@ pub(crate) fn places(alloc: Global, rows: &[Vec<Cell>]) -> Result<Vec<Spot>, Mem
     Ok(spots)
 }
 
-/// Squares, and after them those of one row more.
+/// Appends the squares of one more row.
 fn with_row(mut spots: Vec<Spot>, row: u32, cells: &[Cell]) -> Result<Vec<Spot>, Memory>
     requires { length cells.now ≤ size_limit }
     ensures { IfOk result (λ after. after.items ≡ spots.items ++ places_in_row row 0 cells.now) }
@@ -38,7 +38,7 @@ fn with_row(mut spots: Vec<Spot>, row: u32, cells: &[Cell]) -> Result<Vec<Spot>,
     Ok(spots)
 }
 
-/// The square on which the player starts.
+/// Returns the square on which the player starts.
 pub(crate) fn man(level: &Level, spots: &[Spot]) -> Spot
     requires proper { IsProper level.now }
     requires places { spots.now ≡ places level.now }

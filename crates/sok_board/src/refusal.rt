@@ -1,4 +1,4 @@
-//! The squares for which a level is not accepted.
+//! The squares because of which a level is not accepted.
 
 ghost use Rattle.std.specs.Prelude.{◌≡◌, ◌↔◌, IsTrue, MatchOption, None, IsSome, not};
 ghost use Rattle.std.specs.List.{list_any};
@@ -15,7 +15,7 @@ use crate::table;
 use sok_rules::cell::{Dir, Spot};
 use sok_rules::level::Level;
 
-/// The first square of the area that has a neighbour in no row.
+/// Returns the first square of the area that has a neighbour in no row.
 pub(crate) fn first_leak(level: &Level, squares: &[Spot]) -> Option<Spot>
     requires proper { IsProper level.now }
     requires area { IsArea level.now squares.now }
@@ -29,7 +29,7 @@ pub(crate) fn first_leak(level: &Level, squares: &[Spot]) -> Option<Spot>
     None
 }
 
-/// Whether a neighbour lies in no row.
+/// Returns whether a neighbour of a square lies in no row.
 fn has_gap(level: &Level, spot: Spot) -> bool
     requires { HasPlace spot }
     ensures { result ≡ has_gap level.now spot }
@@ -37,7 +37,7 @@ fn has_gap(level: &Level, spot: Spot) -> bool
     has_gap_among(level, spot, &[Dir::Left, Dir::Up, Dir::Right, Dir::Down])
 }
 
-/// Whether the neighbour in one of some directions lies in no row.
+/// Returns whether the neighbour in one of these directions lies in no row.
 fn has_gap_among(level: &Level, spot: Spot, dirs: &[Dir]) -> bool
     requires { HasPlace spot }
     ensures { result ≡ list_any (λ dir. not (lies_beside level.now spot dir)) dirs.now }
@@ -45,7 +45,7 @@ fn has_gap_among(level: &Level, spot: Spot, dirs: &[Dir]) -> bool
     dirs.iter().any(|dir| !lies_beside(level, spot, *dir))
 }
 
-/// Whether the neighbour in a direction lies in some row.
+/// Returns whether the neighbour in a direction lies in some row.
 fn lies_beside(level: &Level, spot: Spot, dir: Dir) -> bool
     requires { HasPlace spot }
     ensures { result ≡ lies_beside level.now spot dir }
@@ -56,7 +56,8 @@ fn lies_beside(level: &Level, spot: Spot, dir: Dir) -> bool
     }
 }
 
-/// The first box that stands outside the area and off a goal, where the area is numbered.
+/// Returns the first box that stands outside the area and off a goal. The squares of the area are
+/// those with a number.
 pub(crate) fn first_stray(level: &Level, spots: &[Spot], numbers: &[Option<Sq>]) -> Option<Spot>
     requires places { spots.now ≡ places level.now }
     requires numbers { (s : Spot) → IsSome (entry None numbers.now s) ↔ InArea level.now s }
@@ -71,7 +72,7 @@ pub(crate) fn first_stray(level: &Level, spots: &[Spot], numbers: &[Option<Sq>])
     None
 }
 
-/// Whether a box stands off a goal at a square without a number.
+/// Returns whether a box stands off a goal on a square without a number.
 fn is_stray(level: &Level, numbers: &[Option<Sq>], spot: Spot) -> bool
     requires { IsSome (entry None numbers.now spot) ↔ InArea level.now spot }
     ensures { IsTrue result ↔ IsStray level.now spot }

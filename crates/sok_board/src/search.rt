@@ -1,5 +1,5 @@
-//! Breadth first search over numbered nodes: from a start on, each node is met once, by as few
-//! letters as lead there.
+//! Breadth-first search over numbered nodes: each node is reached once, by the fewest letters that
+//! lead there from the start.
 
 ghost use Rattle.std.specs.Prelude.{◌≡◌, ◌<◌, ◌+◌, ◌^◌, [], IfOk, IfSome, OnOk, length};
 ghost use Rattle.sok_board.specs.Graphs.{Graph, AreDepths, TellsLetters};
@@ -9,53 +9,53 @@ use sok_rules::cell::Dir;
 use sok_rules::fault::Memory;
 use std::alloc::Global;
 
-/// Nodes, numbered from 0, one of them the start, and where letters lead from each.
+/// Nodes, numbered from 0, one of which is the start, and where letters lead from each node.
 pub trait Ways {
-    /// The nodes and the letters' ways, as a graph.
+    /// The nodes and where letters lead, as a graph.
     ghost graph: { Self → Graph };
 
-    /// How many nodes there are.
+    /// Returns the number of nodes.
     fn nodes(&self) -> usize
         ensures count { result ≡ (graph self.now).nodes }
         ensures few { (graph self.now).nodes < 2 ^ 16 };
 
-    /// The start.
+    /// Returns the start.
     fn start(&self) -> u16
         ensures start { result ≡ (graph self.now).start }
         ensures exists { (graph self.now).start < (graph self.now).nodes };
 
-    /// The node to which a letter leads from one, if it leads anywhere.
+    /// Returns the node to which a letter leads from `node`, if it leads anywhere.
     fn next(&self, node: u16, dir: Dir) -> Option<u16>
         requires { node < (graph self.now).nodes }
         ensures way { result ≡ (graph self.now).way dir node }
         ensures exists { IfSome result (λ next. next < (graph self.now).nodes) };
 }
 
-/// Where a node was met from: by a letter from another one.
+/// How a node was reached: by a letter from another node.
 #[derive(Clone, Copy)]
 pub(crate) struct Origin {
     from: u16,
     dir: Dir,
 }
 
-/// A node that was met, and by how many letters.
+/// A node that was reached, and by how many letters.
 #[derive(Clone, Copy)]
 pub(crate) struct Step {
     node: u16,
     depth: u16,
 }
 
-/// The lists of a search. A further search takes no memory where its nodes are no more.
+/// The lists of a search. Another search that reuses them takes no memory if it has no more nodes.
 #[derive(Drop)]
 pub struct Flood {
-    /// For each node how many letters lead there from the start, at least, and None where none do.
+    /// For each node, the fewest letters that lead there from the start. `None` if none do.
     pub depths: Vec<Option<u16>>,
     origins: Vec<Origin>,
     steps: Vec<Step>,
 }
 
 impl Flood {
-    /// The lists of a search that is yet to begin.
+    /// Makes the lists of a search that has not begun.
     pub fn new(alloc: Global) -> Flood
         ensures { result.depths.items ≡ [] }
     {
@@ -66,7 +66,7 @@ impl Flood {
         }
     }
 
-    /// The depth of a node that is met.
+    /// Returns the depth of a node. `None` if it has not been reached.
     fn depth(&self, node: u16) -> Option<u16>
         ensures { result ≡ depth_in (found_of self.now) node }
     {
@@ -77,14 +77,14 @@ impl Flood {
     }
 }
 
-/// Finds the depth of each node, with the lists of a search before: breadth first search.
+/// Finds the depth of each node by breadth-first search, and reuses the lists of an earlier search.
 pub fn depths_from<W: Ways>(ways: &W, search: Flood) -> Result<Flood, Memory>
     ensures { IfOk result (λ after. AreDepths (W.graph ways.now) after.depths.items) }
 {
     searched(ways, search)
 }
 
-/// A shortest list of letters that lead from the start to a node, and None where none do.
+/// Returns a shortest list of letters that leads from the start to a node. `None` if none does.
 pub fn letters_to<W: Ways>(alloc: Global, ways: &W, to: u16) -> Result<Option<Vec<Dir>>, Memory>
     ensures { IfOk result (TellsLetters (W.graph ways.now) to) }
 {
@@ -105,7 +105,7 @@ pub fn letters_to<W: Ways>(alloc: Global, ways: &W, to: u16) -> Result<Option<Ve
     Ok(Some(letters))
 }
 
-/// A search that has met the start, and nothing else.
+/// Begins a search, in which only the start is reached.
 fn begun<W: Ways>(ways: &W, mut search: Flood) -> Result<Flood, Memory>
     ensures { IfOk result (λ after. IsSearching (W.graph ways.now) 0 (found_of after)) }
 {
@@ -127,7 +127,7 @@ fn begun<W: Ways>(ways: &W, mut search: Flood) -> Result<Flood, Memory>
     Ok(search)
 }
 
-/// A search that takes one step after another, until no new node is met.
+/// Runs a search to its end: takes one step after another until no new node is reached.
 fn searched<W: Ways>(ways: &W, search: Flood) -> Result<Flood, Memory>
     ensures { IfOk result (λ after. IsSearched (W.graph ways.now) (found_of after)) }
 {
@@ -143,7 +143,7 @@ fn searched<W: Ways>(ways: &W, search: Flood) -> Result<Flood, Memory>
     Ok(search)
 }
 
-/// Meets the node to which a letter leads from that of a step, if there is one and it is new.
+/// Adds the node to which a letter leads from the node of a step, if there is one and it is new.
 fn meet<W: Ways>(ways: &W, at: usize, dir: Dir, search: &mut Flood) -> Result<(), Memory>
     requires searching { IsSearching (W.graph ways.now) (turn at dir) (found_of search.old) }
     requires exists { at < length search.old.steps.items }

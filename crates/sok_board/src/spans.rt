@@ -11,21 +11,21 @@ use sok_rules::cell::Spot;
 use sok_rules::fault::Memory;
 use std::alloc::Global;
 
-/// How many bits a word of a bit row has.
+/// The number of bits in a word of a bit row.
 const WORD_BITS: u32 = 64;
 
-/// Squares of the area that lie side by side in a row, all of them before the column 64 or none, with
-/// numbers that follow each other. So the bits of one word stand for them in a bit row.
+/// Squares of the area that lie side by side in a row, with consecutive numbers. Either all of them
+/// or none lie left of column 64, so that they are bits of one word in a bit row.
 #[derive(Clone, Copy)]
 pub struct Span {
     /// The leftmost square, and its number.
     pub first: Spot,
     pub number: Sq,
-    /// How many squares there are, at least 1.
+    /// The number of squares, at least 1.
     pub length: u32,
 }
 
-/// The spans of an area, in order.
+/// Returns the spans of an area, in order.
 pub(crate) fn list_spans(alloc: Global, squares: &[Spot]) -> Result<Vec<Span>, Memory>
     requires few { length squares.now ≤ square_limit }
     requires within { All HasPlace squares.now }
@@ -46,7 +46,8 @@ pub(crate) fn list_spans(alloc: Global, squares: &[Spot]) -> Result<Vec<Span>, M
     Ok(spans)
 }
 
-/// How many squares lie side by side from one on, in the columns of one word.
+/// Returns how many squares lie side by side, from the square `number` on, in the columns of one
+/// word.
 fn span_length(squares: &[Spot], number: usize) -> usize
     requires number { number < length squares.now }
     requires few { length squares.now ≤ square_limit }

@@ -1,4 +1,5 @@
-//! The tests by which a level is accepted, in the order of refusal, and what they find.
+//! The tests that a level must pass to be accepted, in order, and the numbering of an accepted
+//! level.
 
 ghost use Rattle.std.specs.Prelude.{◌≡◌, IfOk, IfErr, map};
 ghost use Rattle.sok_rules.specs.Squares.{places};
@@ -18,8 +19,9 @@ use sok_rules::cell::{Cell, Spot};
 use sok_rules::level::Level;
 use std::alloc::Global;
 
-/// The numbers of squares in a table, those of the squares beside each square, the spans of the
-/// area, the numbers of the goals and of the boxes, rising, and that of the player.
+/// The numbering of an area: a table of the squares' numbers, the neighbours of each square, the
+/// spans, and the numbers of the goals, the player and the boxes. Goals and boxes are in ascending
+/// order.
 #[derive(Drop)]
 pub(crate) struct Numbering {
     pub(crate) numbers: Vec<Option<Sq>>,
@@ -30,7 +32,8 @@ pub(crate) struct Numbering {
     pub(crate) boxes: Vec<Sq>,
 }
 
-/// The numbering of a level with these squares, if the level is accepted.
+/// Returns the numbering of a level with these squares if the level is accepted, otherwise the
+/// first fault.
 pub(crate) fn number(
     alloc: Global,
     level: &Level,

@@ -6,7 +6,7 @@ use Rattle.sok_book.specs.declared.text.BookText.TheVariants.{Overview, Export}
 use Rattle.sok_book.specs.Exported.{export_text}
 use Rattle.sok_book.specs.Overview.{overview_from}
 
--- a line for each level, or a collection of them, with their solutions or without
+-- a line for each level, or a collection of the levels with or without their solutions
 abbrev pub book_text : BookText → List Page → List ℕ
 book_text Overview pages = overview_from 1 pages
 book_text (Export solutions) pages = export_text solutions pages

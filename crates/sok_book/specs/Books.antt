@@ -6,7 +6,7 @@ use Rattle.sok_rules.specs.Play.{start, pushes, Solves, IsFewest, IsUnsolvable}
 use Rattle.sok_book.specs.declared.record.Verdict.{Verdict}
 use Rattle.sok_book.specs.declared.record.Verdict.TheVariants.{Untested, Optimal, Unsolvable}
 
--- a solution as it is kept: its letters, how many of them push, and how many there are
+-- a solution as it is kept: its letters, how many of them push, and how many letters there are
 pub record Solution : Type 0 where
   pub letters : List Dir
   pub pushes : ℕ
@@ -27,21 +27,21 @@ pub record PageWithId : Type 0 where
 abbrev pub Book : Type 0
 Book = List Page
 
--- the page with an id; ids count from 1
+-- the page with this id; ids count from 1
 abbrev pub page_at : Book → ℕ → Option Page
 page_at book zero = None
 page_at book (suc n) = slice_get book n
 
--- the solution that letters are
+-- these letters as a solution, with their pushes and moves
 abbrev pub solution_of : Rows → List Dir → Solution
 solution_of rows letters = record { letters = letters; pushes = pushes rows (start rows) letters; moves = length letters }
 
--- the letters solve the level, and their numbers are stated right
+-- the letters solve the level, and the stated pushes and moves are right
 pub record IsSolution (rows : Rows) (best : Solution) : Type 0 where
   pub solves : Solves rows best.letters
   pub counted : best ≡ solution_of rows best.letters
 
--- what a verdict says of a level and its best solution: nothing; that none has fewer pushes; that there is none
+-- what a verdict says of a level and its best solution: nothing, that no solution has fewer pushes, or that there is no solution
 abbrev pub IsVerdictOf : Rows → Option Solution → Verdict → Type 0
 IsVerdictOf rows best Untested = Unit {0}
 IsVerdictOf rows (Some best) Optimal = IsFewest rows best.pushes
@@ -49,7 +49,7 @@ IsVerdictOf rows None Optimal = ⊥
 IsVerdictOf rows (Some best) Unsolvable = ⊥
 IsVerdictOf rows None Unsolvable = IsUnsolvable rows
 
--- its best is a solution, and its verdict is true
+-- the best solution is one, and the verdict is true
 pub record IsTruePage (page : Page) : Type 0 where
   pub best : IfSome page.best (IsSolution page.level)
   pub verdict : IsVerdictOf page.level page.best page.verdict

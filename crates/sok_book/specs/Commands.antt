@@ -1,4 +1,4 @@
--- What each command makes of a book, and what it answers.
+-- What each command makes of a book, and its answer.
 use Rattle.std.specs.Prelude.{ℕ, ◌≡◌, ◌<◌, ◌≤◌, ◌+◌, ◌-◌, List, [], ◌∷◌, ◌++◌, Option, Some, None, Bool, true, false, IsSomeAnd, if◌then◌else◌, nat_lt}
 use Rattle.std.specs.Prelude.{length, option_map, slice_set}
 use Rattle.sok_rules.specs.declared.cell.Dir.{Dir}
@@ -17,7 +17,7 @@ use Rattle.sok_book.specs.declared.record.Verdict.{Verdict}
 use Rattle.sok_book.specs.declared.record.Verdict.TheVariants as verdict
 use Rattle.sok_book.specs.Books.{Book, Page, Solution, page_at, solution_of}
 
--- the most levels of a book
+-- the greatest number of levels in a book
 abbrev pub level_limit : ℕ
 level_limit = 10000
 
@@ -25,18 +25,18 @@ level_limit = 10000
 abbrev pub new_page : Rows → Option (List ℕ) → Page
 new_page rows title = record { level = rows; title = title; best = None; verdict = verdict.Untested }
 
--- the book with another page at an id
+-- the book after its page with this id is replaced
 abbrev pub with_page : Book → ℕ → Page → Book
 with_page book id page = slice_set book (id - 1) page
 
--- the level stands in the book at an id
+-- the level is in the book, with this id
 abbrev pub StandsAt : Book → Rows → ℕ → Type 0
 StandsAt book rows id = IsSomeAnd (page_at book id) (λ page. page.level ≡ rows)
 
 abbrev pub IsUnknown : Book → Rows → Type 0
 IsUnknown book rows = (id : ℕ) → StandsAt book rows id → ⊥
 
--- a level is added: one that stands there keeps its id and its title, and a new one goes last
+-- A level is added. If the book has it, it keeps its id and its title, and the book stays. A new level comes last.
 pub data Adds (book : Book) (rows : Rows) (title : Option (List ℕ)) (id : ℕ) (after : Book) : Type 0 where
   is_known : StandsAt book rows id → after ≡ book → Adds book rows title id after
   is_new : IsUnknown book rows → length book < level_limit → id ≡ length book + 1 → after ≡ book ++ new_page rows title ∷ [] → Adds book rows title id after
@@ -45,7 +45,7 @@ pub data Adds (book : Book) (rows : Rows) (title : Option (List ℕ)) (id : ℕ)
 abbrev pub best_pushes : Page → Option ℕ
 best_pushes page = option_map (λ best. best.pushes) page.best
 
--- there is no best yet, or it has more pushes
+-- a solution with this many pushes is better: there is no best one yet, or it has more pushes
 abbrev pub is_better : ℕ → Option ℕ → Bool
 is_better pushes None = true
 is_better pushes (Some best) = nat_lt pushes best
@@ -54,11 +54,11 @@ abbrev pub offer_answer : Bool → Offer
 offer_answer true = Stored
 offer_answer false = Kept
 
--- the page with a better best, and no verdict yet
+-- the page with this best solution and no verdict, if it is better; otherwise the same page
 abbrev pub with_best : Page → Solution → Page
 with_best page best = if is_better best.pushes (best_pushes page) then record page { best = Some best; verdict = verdict.Untested } else page
 
--- letters that solve a level are offered: they are its best where there is none, or where they push less
+-- Letters that solve a level are offered. They become its best solution if there is none yet, or if they have fewer pushes.
 pub record Offers (book : Book) (id : ℕ) (letters : List Dir) (answer : Offer) (after : Book) : Type 0 where
   pub page : Page
   pub there : page_at book id ≡ Some page
@@ -67,14 +67,14 @@ pub record Offers (book : Book) (id : ℕ) (letters : List Dir) (answer : Offer)
   pub answer_is : answer ≡ offer_answer (is_better (pushes page.level (start page.level) letters) (best_pushes page))
   pub after_is : after ≡ with_page book id (with_best page (solution_of page.level letters))
 
--- the bytes are a certificate that is closed on the level's board, and shows the claim
+-- the bytes are a certificate that is closed on the level's board, and this is its claim
 pub record IsCertificate (rows : Rows) (bytes : List ℕ) (claim : Claim) : Type 0 where
   pub board : BoardView
   pub rows_are : board.rows ≡ rows
   pub accepted : IsAccepted board
   pub shown : IsProofOf board bytes claim
 
--- a claim is about the best solution: it has as many pushes as are claimed, or there is none
+-- a claim fits the best solution: it states the same number of pushes; or it states that there is no solution, and there is no best one
 abbrev pub Meets : Claim → Option ℕ → Type 0
 Meets (claim.Pushes k) best = best ≡ Some k
 Meets claim.Unsolvable best = best ≡ None
@@ -83,7 +83,7 @@ abbrev pub verdict_of : Claim → Verdict
 verdict_of (claim.Pushes k) = verdict.Optimal
 verdict_of claim.Unsolvable = verdict.Unsolvable
 
--- a level's verdict is proved by a certificate whose claim is about the best solution
+-- a certificate proves a level's verdict: its claim fits the best solution
 pub record Proves (book : Book) (id : ℕ) (bytes : List ℕ) (shown : Claim) (after : Book) : Type 0 where
   pub page : Page
   pub there : page_at book id ≡ Some page
@@ -91,7 +91,7 @@ pub record Proves (book : Book) (id : ℕ) (bytes : List ℕ) (shown : Claim) (a
   pub meets : Meets shown (best_pushes page)
   pub after_is : after ≡ with_page book id (record page { verdict = verdict_of shown })
 
--- a level's verdict is set by a claim about the best solution that is true
+-- a level's verdict is set by a true claim that fits the best solution
 pub record SetsVerdict (book : Book) (id : ℕ) (shown : Claim) (after : Book) : Type 0 where
   pub page : Page
   pub there : page_at book id ≡ Some page
@@ -99,7 +99,7 @@ pub record SetsVerdict (book : Book) (id : ℕ) (shown : Claim) (after : Book) :
   pub meets : Meets shown (best_pushes page)
   pub after_is : after ≡ with_page book id (record page { verdict = verdict_of shown })
 
--- one command leads from a book to another
+-- one command makes the second book of the first
 pub data OneCommand (book after : Book) : Type 0 where
   add : (rows : Rows) (title : Option (List ℕ)) (id : ℕ) → IsAcceptable rows → Adds book rows title id after → OneCommand book after
   offer : (id : ℕ) (letters : List Dir) (answer : Offer) → Offers book id letters answer after → OneCommand book after

@@ -1,4 +1,4 @@
--- How faults are printed: their numbers, and their names with their arguments, each after one space. And what a lower layer's fault becomes.
+-- How faults are printed: their numbers, and their names with their arguments, each after one space. Also, how faults of lower layers are passed on.
 use Rattle.std.specs.Prelude.{ℕ, List, ◌++◌, codes}
 use Rattle.std.specs.Fmt.{signed_decimal}
 use Rattle.sok_rules.specs.declared.fault.PlayFault.{PlayFault}

@@ -10,18 +10,18 @@ use Rattle.sok_book.specs.declared.record.Verdict.TheVariants.{Untested, Optimal
 use Rattle.sok_book.specs.Books.{Page, Solution, IsSolution}
 use Rattle.sok_book.specs.Titles.{IsTitle}
 
--- a solution that solves with its pushes and moves, and has no more letters than a text may have
+-- a solution with its pushes and moves that has no more letters than a text may have
 pub record IsKeptSolution (rows : Rows) (best : Solution) : Type 0 where
   pub solution : IsSolution rows best
   pub few : length best.letters ≤ letter_limit
 
--- whether a verdict may stand where there is a best solution, or where there is none
+-- whether a level with a best solution, or without one, may have this verdict
 abbrev pub may_stand : Bool → Verdict → Bool
 may_stand best Untested = true
 may_stand best Optimal = best
 may_stand best Unsolvable = not best
 
--- an accepted level, up to these limits, a title, a best solution if there is one, and a verdict that goes with it
+-- an accepted level within these limits, a title if there is one, a best solution if there is one, and a verdict that fits it
 pub record IsKeptPageIn (size squares : ℕ) (page : Page) : Type 0 where
   pub level : IsLevelIn size page.level
   pub accepted : IsAcceptableIn size squares page.level

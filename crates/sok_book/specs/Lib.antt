@@ -1,4 +1,4 @@
--- Each file holds the words of public contracts.
+-- Definitions that public contracts use.
 pub mod BookTexts
 pub mod Books
 pub mod Commands

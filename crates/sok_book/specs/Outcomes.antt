@@ -1,4 +1,4 @@
--- A command is done or refused, and never both.
+-- A command is either done or refused, never both.
 use Rattle.std.specs.Prelude.{ℕ, ◌≤◌, List, Option, length}
 use Rattle.sok_rules.specs.declared.cell.Dir.{Dir}
 use Rattle.sok_rules.specs.Limits.{letter_limit}

@@ -13,7 +13,7 @@ use Rattle.sok_book.specs.Books.{Page, Solution}
 abbrev pub row_count : List ℕ → ℕ
 row_count text = count_by is_newline text
 
--- the length of its longest row
+-- the length of the longest row
 abbrev pub column_count : List ℕ → ℕ
 column_count text = fold (λ most line. max most (length line)) 0 (lines text)
 
@@ -24,12 +24,12 @@ is_box c = c == code (codes "$") || c == code (codes "*")
 abbrev pub box_count : List ℕ → ℕ
 box_count text = count_by is_box text
 
--- a level's number, its rows, its columns and its boxes
+-- a level's number, and how many rows, columns and boxes it has
 abbrev pub size_words : ℕ → List ℕ → List ℕ
 size_words n text =
     decimal n ++ (codes " " ++ (decimal (row_count text) ++ (codes " " ++ (decimal (column_count text) ++ (codes " " ++ (decimal (box_count text) ++ codes " "))))))
 
--- the pushes and the moves of the best, if there is one
+-- the pushes and the moves of the best solution, or `-` twice
 abbrev pub best_words : Option Solution → List ℕ
 best_words None = codes "- - "
 best_words (Some best) = decimal best.pushes ++ (codes " " ++ (decimal best.moves ++ codes " "))
@@ -39,7 +39,7 @@ verdict_word Untested = codes "untested"
 verdict_word Optimal = codes "optimal"
 verdict_word Unsolvable = codes "unsolvable"
 
--- a title behind a space, if there is one
+-- a space and the title, if there is one
 abbrev pub title_words : Option (List ℕ) → List ℕ
 title_words None = []
 title_words (Some title) = codes " " ++ title
@@ -49,7 +49,7 @@ abbrev pub overview_line : ℕ → Page → List ℕ
 overview_line n page =
     size_words n (level_text page.level) ++ (best_words page.best ++ (verdict_word page.verdict ++ (title_words page.title ++ codes "\n")))
 
--- the lines of levels, of which the first has this number
+-- the lines of these levels, of which the first has this number
 abbrev pub overview_from : ℕ → List Page → List ℕ
 overview_from n [] = []
 overview_from n (page ∷ pages) = overview_line n page ++ overview_from (n + 1) pages

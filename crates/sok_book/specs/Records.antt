@@ -5,12 +5,12 @@ use Rattle.sok_book.specs.Books.{Book, Page, PageWithId, page_at}
 abbrev pub with_id : ℕ → Page → PageWithId
 with_id id page = record { id = pos id; page = page }
 
--- pages whose ids count on from this one
+-- the pages with their ids, which count from this one
 abbrev pub pages_from : ℕ → Book → List PageWithId
 pages_from id [] = []
 pages_from id (page ∷ more) = with_id id page ∷ pages_from (id + 1) more
 
--- without their ids
+-- the pages without their ids
 abbrev pub pages_of : List PageWithId → List Page
 pages_of = map (λ (kept : PageWithId). kept.page)
 

@@ -5,6 +5,6 @@ use Rattle.sok_rules.specs.Squares.{Rows}
 use Rattle.sok_rules.specs.Play.{start}
 use Rattle.sok_text.specs.Marked.{marked_text}
 
--- a letter for each direction from the start of a level, upper case exactly where it pushes
+-- a letter for each direction, played from the start of a level; it is in upper case exactly if it pushes
 abbrev pub lurd_of : Rows → List Dir → List ℕ
 lurd_of rows letters = marked_text rows (start rows) letters

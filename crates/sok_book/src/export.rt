@@ -13,10 +13,10 @@ use sok_rules::fault::Memory;
 use sok_rules::level::Level;
 use std::alloc::{AllocError, Global};
 
-/// The text of a collection of all levels, in this order. Each has a note `; TITLE` before it where
-/// it has a title, then its canonical rows, and an empty line behind it. Where solutions are asked
-/// for, notes stand before that line: `Solution: LURD` and `Pushes: K` or `Pushes: K optimal` where
-/// it has a best, or `Unsolvable` where that was proved.
+/// Returns the text of a collection of all levels, in this order. A level with a title begins with
+/// the note `; TITLE`. Its canonical rows follow, and then an empty line. If `solutions` is set,
+/// notes stand before that line: `Solution: LURD` and `Pushes: K` or `Pushes: K optimal` if the
+/// level has a best solution, or `Unsolvable` if that was proved.
 pub fn export_text(alloc: Global, records: &[Record], solutions: bool) -> Result<Vec<u8>, Memory>
     ensures { IfOk result (λ text. text.items ≡ export_text solutions (pages_of records.now)) }
 {
@@ -27,7 +27,7 @@ pub fn export_text(alloc: Global, records: &[Record], solutions: bool) -> Result
     Ok(text)
 }
 
-/// Adds a level to a text.
+/// Appends a level to `text`.
 fn push_level(
     alloc: Global,
     text: &mut Vec<u8>,
@@ -45,7 +45,7 @@ fn push_level(
     Ok(())
 }
 
-/// Adds the note of a title, if there is one.
+/// Appends the note of a title, if there is one.
 fn push_note(text: &mut Vec<u8>, title: &Option<Vec<u8>>) -> Result<(), AllocError>
     ensures { OnOk result (text.new.items
         ≡ text.old.items ++ title_note (option_map (λ title. title.items) title.now)) }
@@ -61,7 +61,7 @@ fn push_note(text: &mut Vec<u8>, title: &Option<Vec<u8>>) -> Result<(), AllocErr
     }
 }
 
-/// Adds the notes behind the rows, where solutions are asked for.
+/// Appends the notes after the rows, if solutions are wanted.
 fn push_notes_behind(
     alloc: Global,
     text: &mut Vec<u8>,
@@ -78,7 +78,7 @@ fn push_notes_behind(
     }
 }
 
-/// Adds the notes of a best solution, or that there is no solution.
+/// Appends the notes of a best solution, or that there is no solution.
 fn push_solution(
     alloc: Global,
     text: &mut Vec<u8>,
@@ -95,7 +95,7 @@ fn push_solution(
     }
 }
 
-/// Adds the notes of a best solution.
+/// Appends the notes of a best solution.
 fn push_best(
     alloc: Global,
     text: &mut Vec<u8>,
@@ -114,7 +114,7 @@ fn push_best(
     Ok(())
 }
 
-/// The end of a line, and the note of the pushes behind it.
+/// Returns the end of the solution's line and the note of its pushes.
 fn pushes_note(alloc: Global, pushes: u32, optimal: &str) -> Result<String, AllocError>
     ensures { IfOk result (λ note. string_bytes note
         ≡ codes "\nPushes: " ++ (decimal pushes ++ (optimal.now ++ codes "\n"))) }
@@ -122,7 +122,7 @@ fn pushes_note(alloc: Global, pushes: u32, optimal: &str) -> Result<String, Allo
     format!(in alloc; "\nPushes: {pushes}{optimal}\n")
 }
 
-/// What stands behind the pushes of a best that was proved optimal.
+/// Returns what follows the number of pushes: ` optimal` if that was proved.
 fn optimal_words(verdict: Verdict) -> &'static str
     ensures { result.now ≡ optimal_words verdict }
 {
@@ -132,7 +132,7 @@ fn optimal_words(verdict: Verdict) -> &'static str
     }
 }
 
-/// Adds the note that there is no solution, where that was proved.
+/// Appends the note that there is no solution, if that was proved.
 fn push_unsolvable(text: &mut Vec<u8>, verdict: Verdict) -> Result<(), AllocError>
     ensures { (rows : _) → OnOk result
         (text.new.items ≡ text.old.items ++ solution_notes rows None verdict) }
@@ -146,9 +146,8 @@ fn push_unsolvable(text: &mut Vec<u8>, verdict: Verdict) -> Result<(), AllocErro
     }
 }
 
-/// The text of the levels of a book is, by the definition of collections, the same levels with the
-/// same titles in the same order, with solutions or without. So an export is read back as what was
-/// exported.
+/// An export can be read back. By the definition of collections, its text has the same levels with
+/// the same titles in the same order, with solutions or without.
 pub fn exports_read_back()
     ensures { ExportsReadBack }
 {}

@@ -16,32 +16,33 @@ use thiserror::Error;
 /// arguments.
 #[derive(Clone, Copy, Debug, PartialEq, Eq, Error)]
 pub enum BookFault {
-    /// No board can be made of the level that is added.
+    /// No board can be made of the added level.
     Level(BoardFault),
-    /// A letter that is offered is not legal, or there are more than 1,000,000.
+    /// An offered letter is not legal, or there are more than 1,000,000 letters.
     Letters(PlayFault),
-    /// The letters are legal, and not all boxes stand on goals at their end.
+    /// The letters are legal, but not all boxes stand on goals after them.
     NotSolved,
     /// The bytes are no certificate, or its list is not closed.
     Certificate(CertFault),
     /// The book has no level with this id.
     NoLevel,
-    /// Pushes are claimed of a level that has no solution yet.
+    /// The claim states a number of pushes, but the level has no solution yet.
     NoBest,
-    /// The database refused, for another cause than memory.
+    /// The database refused, for a cause other than memory.
     Database,
-    /// The claim is not about the best solution: another number of pushes, or that there is none.
+    /// The claim does not fit the best solution: it states another number of pushes, or that there
+    /// is no solution.
     ClaimDiffers,
-    /// The id of the first row that breaks a rule of books, or its place where that is no number.
+    /// The id of the first row that breaks a rule of books; its place if the id is no whole number.
     BadBook(i64),
-    /// The level is new, and the book has 10,000.
+    /// The level is new, and the book already has 10,000.
     BookFull,
     /// Memory was refused.
     Memory,
 }
 
 impl BookFault {
-    /// The number by which the fault is printed.
+    /// Returns the number by which the fault is printed.
     pub fn number(&self) -> u8
         ensures { result ≡ book_fault_number self.now }
     {

@@ -1,5 +1,5 @@
-//! The book: levels with their best solutions, what each command makes of it, and what is shown of
-//! it. This crate says what a book means, with no word of where it is kept.
+//! The book: levels with their best solutions, the effect of each command, and the texts that show
+//! a book. This crate defines what a book means. It does not say where a book is stored.
 //!
 //! | Module | What it holds |
 //! |---|---|
@@ -9,11 +9,11 @@
 //! | `limits` | how large a book may be |
 //! | `offering` | whether letters are a solution that a book may keep |
 //! | `overview` | a line for each level of a book |
-//! | `proving` | whether bytes prove something of a level's best solution |
-//! | `record` | a level with what is known of it, and what becomes of an offer |
+//! | `proving` | whether bytes prove a verdict of a level |
+//! | `record` | a level with its best solution and verdict, and the answer to an offer |
 //! | `show` | a level with its title, its best solution and its verdict |
-//! | `text` | a text of all levels, as it is asked for |
-//! | `title` | what is kept of a title |
+//! | `text` | the texts of all levels, and which one is wanted |
+//! | `title` | which part of a title is kept |
 //! | `writing` | the texts of a level and of a solution |
 #![tactic(auto)]
 

@@ -1,4 +1,4 @@
 //! How large a book may be.
 
-/// The most levels of a book.
+/// The greatest number of levels in a book.
 pub const LEVEL_LIMIT: u32 = 10_000;

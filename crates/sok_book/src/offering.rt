@@ -14,11 +14,13 @@ use sok_rules::level::Level;
 use sok_rules::play::{Tally, replay};
 use std::alloc::Global;
 
-/// The most letters of a solution that is kept.
+/// The greatest number of letters of a solution that is kept.
 pub const LETTER_LIMIT: usize = 1_000_000;
 
-/// The pushes and moves of letters that solve a level. Refused are, in this order, more than
-/// 1,000,000 letters, a letter that is not legal, and letters that leave a box off a goal.
+/// Returns the pushes and moves of letters that solve a level.
+///
+/// Errors, in this order: `TooLong` if there are more than 1,000,000 letters; `Blocked` if a letter
+/// is not legal; `NotSolved` if a box is left off a goal. Or `Memory`.
 pub fn judge_letters(alloc: Global, level: &Level, letters: &[Dir]) -> Result<Tally, BookFault>
     ensures solves { IfOk result (λ _. Solves level.now letters.now) }
     ensures few { IfOk result (λ _. length letters.now ≤ letter_limit) }
@@ -37,7 +39,7 @@ pub fn judge_letters(alloc: Global, level: &Level, letters: &[Dir]) -> Result<Ta
 
 ghost use Rattle.sok_rules.specs.Replay.{IsTally};
 
-/// A tally of letters, if they solve.
+/// Returns the tally of letters, if they solve the level.
 fn accepted(level: &Level, letters: &[Dir], tally: Tally) -> Result<Tally, BookFault>
     requires tally { IsTally level.now letters.now tally }
     requires few { length letters.now ≤ letter_limit }
@@ -52,7 +54,8 @@ fn accepted(level: &Level, letters: &[Dir], tally: Tally) -> Result<Tally, BookF
     }
 }
 
-/// Whether a solution with so many pushes replaces a best one with so many, or none.
+/// Returns whether a solution with `pushes` pushes replaces the best one, which has `best` pushes.
+/// If there is none yet, it does.
 pub fn is_better(pushes: u64, best: Option<u64>) -> bool
     ensures { result ≡ is_better pushes best }
 {

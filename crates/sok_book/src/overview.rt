@@ -12,10 +12,10 @@ use crate::writing::text_of;
 use sok_rules::fault::Memory;
 use std::alloc::{AllocError, Global};
 
-/// A line for each level, in this order, numbered from 1: its number, how many rows, columns and
-/// boxes it has, the pushes and the moves of its best solution, or `-` twice where there is none,
-/// its verdict, and its title where it has one. Columns are those of the longest row, and boxes on
-/// goals are counted too.
+/// Returns a line for each level, in this order: its number, counted from 1; how many rows, columns
+/// and boxes it has; the pushes and the moves of its best solution, or `-` twice if there is none;
+/// its verdict; and its title, if it has one. The columns are those of the longest row. Boxes on
+/// goals are counted, too.
 pub fn overview_text(alloc: Global, records: &[Record]) -> Result<Vec<u8>, Memory>
     ensures { IfOk result (λ text. text.items ≡ overview_from 1 (pages_of records.now)) }
 {
@@ -26,7 +26,7 @@ pub fn overview_text(alloc: Global, records: &[Record]) -> Result<Vec<u8>, Memor
     Ok(text)
 }
 
-/// Adds the line of the n-th level to a text.
+/// Appends the line of the n-th level to `text`.
 fn push_line(alloc: Global, text: &mut Vec<u8>, n: usize, kept: &Record) -> Result<(), Memory>
     ensures { OnOk result
         (text.new.items ≡ text.old.items ++ overview_line n kept.now.page) }
@@ -41,7 +41,7 @@ fn push_line(alloc: Global, text: &mut Vec<u8>, n: usize, kept: &Record) -> Resu
     Ok(())
 }
 
-/// The number of a level, and its size.
+/// Returns the number of a level, and its rows, columns and boxes.
 fn size(alloc: Global, n: usize, level: &str) -> Result<String, AllocError>
     ensures { IfOk result (λ size. string_bytes size ≡ size_words n level.now) }
 {
@@ -51,14 +51,14 @@ fn size(alloc: Global, n: usize, level: &str) -> Result<String, AllocError>
     format!(in alloc; "{n} {rows} {columns} {boxes} ")
 }
 
-/// How many rows the text of a level has.
+/// Returns how many rows the text of a level has.
 fn rows(level: &[u8]) -> usize
     ensures { result ≡ row_count level.now }
 {
     level.iter().filter(|byte| **byte == b'\n').count()
 }
 
-/// The length of its longest row.
+/// Returns the length of the longest row.
 fn columns(level: &str) -> usize
     ensures { result ≡ column_count level.now }
 {
@@ -67,7 +67,7 @@ fn columns(level: &str) -> usize
         .fold(0, |most: usize, line| most.max(line.len()))
 }
 
-/// How many boxes it has, on goals or not.
+/// Returns how many boxes the text of a level has, on goals or not.
 fn boxes(level: &[u8]) -> usize
     ensures { result ≡ box_count level.now }
 {
@@ -77,7 +77,7 @@ fn boxes(level: &[u8]) -> usize
         .count()
 }
 
-/// Adds the numbers of the best solution.
+/// Appends the pushes and the moves of the best solution.
 fn push_best(alloc: Global, text: &mut Vec<u8>, best: &Option<Best>) -> Result<(), AllocError>
     ensures { OnOk result (text.new.items ≡ text.old.items ++ best_words best.now) }
 {
@@ -94,7 +94,7 @@ fn push_best(alloc: Global, text: &mut Vec<u8>, best: &Option<Best>) -> Result<(
     }
 }
 
-/// The numbers of a solution.
+/// Returns the pushes and the moves of a solution as text.
 fn numbers(alloc: Global, pushes: u32, moves: u32) -> Result<String, AllocError>
     ensures { IfOk result (λ text. string_bytes text
         ≡ decimal pushes ++ (codes " " ++ (decimal moves ++ codes " "))) }
@@ -102,7 +102,7 @@ fn numbers(alloc: Global, pushes: u32, moves: u32) -> Result<String, AllocError>
     format!(in alloc; "{pushes} {moves} ")
 }
 
-/// The word of a verdict.
+/// Returns the word for a verdict.
 fn verdict_word(verdict: Verdict) -> &'static str
     ensures { result.now ≡ verdict_word verdict }
 {
@@ -113,7 +113,7 @@ fn verdict_word(verdict: Verdict) -> &'static str
     }
 }
 
-/// Adds a title behind a space, if there is one.
+/// Appends a space and the title, if there is one.
 fn push_title(text: &mut Vec<u8>, title: &Option<Vec<u8>>) -> Result<(), AllocError>
     ensures { OnOk result (text.new.items
         ≡ text.old.items ++ title_words (option_map (λ title. title.items) title.now)) }

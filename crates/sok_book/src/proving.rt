@@ -1,4 +1,4 @@
-//! Whether bytes prove something of a level's best solution.
+//! Whether bytes prove a verdict of a level.
 
 ghost use Rattle.std.specs.Prelude.{◌≡◌, ◌⊎◌, IfOk, IfErr, MatchOption};
 ghost use Rattle.sok_cert.specs.CertFault.TheVariants as cert;
@@ -15,10 +15,11 @@ use sok_cert::fault::CertFault;
 use sok_cert::stream::{Ended, Stream};
 use std::alloc::Global;
 
-/// The claim that the bytes of a certificate show of a board, where it is about the pushes of the
-/// best solution: it has as many as are claimed, or there is none and none is to be. Refused are,
-/// in this order, bytes that are no certificate, a claim that is not about the best, and a list
-/// that is not closed.
+/// Returns the claim that a certificate proves of a board. The claim fits the best solution: it
+/// states the same number of pushes, or that there is no solution if `best` is `None`.
+///
+/// Errors, in this order: bytes that are no certificate; a claim that does not fit the best
+/// solution; a list that is not closed. Or `Memory`.
 pub fn judge_proof(
     alloc: Global,
     board: &Board,
@@ -40,7 +41,7 @@ pub fn judge_proof(
     }
 }
 
-/// The certificate that bytes spell, its entries judged by a board.
+/// Reads the certificate that bytes spell, and judges its entries on a board.
 fn certificate_of<'a>(alloc: Global, board: &'a Board, bytes: &[u8]) -> Result<Ended<'a>, CertFault>
     ensures board { IfOk result (λ ended. ended.board ≡ board.now) }
     ensures ends { IfOk result (EndsFor bytes.now) }
@@ -49,7 +50,7 @@ fn certificate_of<'a>(alloc: Global, board: &'a Board, bytes: &[u8]) -> Result<E
     Stream::new(alloc, board)?.take(bytes)?.ended()
 }
 
-/// Why a claim is not about the best solution.
+/// Returns why a claim does not fit the best solution.
 fn difference(claim: Claim, best: Option<u64>) -> Option<BookFault>
     ensures { MatchOption result (Meets claim best) (Differs claim best) }
 {

@@ -9,28 +9,28 @@ use std::marker::Model;
 pub enum Verdict {
     /// Nothing is proved.
     Untested,
-    /// No text of letters solves with fewer pushes.
+    /// No solution has fewer pushes.
     Optimal,
-    /// No text of letters solves.
+    /// The level has no solution.
     Unsolvable,
 }
 
-/// What became of a solution that was offered.
+/// What became of an offered solution.
 #[derive(Clone, Copy, PartialEq, Eq)]
 pub enum Offer {
-    /// It is the best now.
+    /// It is now the best solution.
     Stored,
-    /// The best is as it was: it has no more pushes.
+    /// The best solution stays, since it has no more pushes.
     Kept,
 }
 
-/// A solution as it is kept. It is seen as its letters and their numbers.
+/// A solution as it is kept. Contracts see it as its letters, pushes and moves.
 #[derive(Drop)]
 pub struct Best {
     pub letters: Vec<Dir>,
     /// How many letters push a box.
     pub pushes: u32,
-    /// How many letters there are, pushes included.
+    /// How many letters there are, including those that push.
     pub moves: u32,
 }
 
@@ -43,13 +43,13 @@ impl Model for Best {
         record { letters = best.letters.items; pushes = best.pushes; moves = best.moves } };
 }
 
-/// A level of a book, with what is known of it. It is seen as its id and its page.
+/// A level of a book, with what is known of it. Contracts see it as its id and its page.
 #[derive(Drop)]
 pub struct Record {
-    /// From 1 on, without a gap.
+    /// Ids count from 1, without a gap.
     pub id: i64,
     pub level: Level,
-    /// One line, without blanks at its ends, and not empty.
+    /// One line that is not empty, without blanks at its ends.
     pub title: Option<Vec<u8>>,
     pub best: Option<Best>,
     pub verdict: Verdict,

@@ -10,8 +10,9 @@ use sok_rules::fault::Memory;
 use sok_rules::level::Level;
 use std::alloc::{AllocError, Global};
 
-/// The canonical rows of a level; then `title TITLE`, if it has one; `best PUSHES MOVES LURD` or
-/// `best none`; and `verdict untested`, `verdict optimal` or `verdict unsolvable`, each on a line.
+/// Returns the canonical rows of a level and then, each on a line, `title TITLE` if it has one;
+/// `best PUSHES MOVES LURD` or `best none`; and `verdict untested`, `verdict optimal` or `verdict
+/// unsolvable`.
 pub fn shown_text(alloc: Global, kept: &Record) -> Result<Vec<u8>, Memory>
     ensures { IfOk result (λ text. text.items ≡ shown_text kept.now.page) }
 {
@@ -24,7 +25,7 @@ pub fn shown_text(alloc: Global, kept: &Record) -> Result<Vec<u8>, Memory>
     Ok(text)
 }
 
-/// Adds the line of a title, if there is one.
+/// Appends the line of a title, if there is one.
 fn push_title(text: &mut Vec<u8>, title: &Option<Vec<u8>>) -> Result<(), AllocError>
     ensures { OnOk result (text.new.items
         ≡ text.old.items ++ title_line (option_map (λ title. title.items) title.now)) }
@@ -40,7 +41,7 @@ fn push_title(text: &mut Vec<u8>, title: &Option<Vec<u8>>) -> Result<(), AllocEr
     }
 }
 
-/// Adds the line of the best solution.
+/// Appends the line of the best solution, or of none.
 fn push_best(
     alloc: Global,
     text: &mut Vec<u8>,
@@ -58,7 +59,7 @@ fn push_best(
     }
 }
 
-/// Adds the line of a solution.
+/// Appends the line of a solution.
 fn push_solution(
     alloc: Global,
     text: &mut Vec<u8>,
@@ -76,7 +77,7 @@ fn push_solution(
     Ok(())
 }
 
-/// The front of the line of a solution.
+/// Returns the line of a solution up to its letters.
 fn numbers(alloc: Global, pushes: u32, moves: u32) -> Result<String, AllocError>
     ensures { IfOk result (λ text. string_bytes text
         ≡ codes "best " ++ (decimal pushes ++ (codes " " ++ (decimal moves ++ codes " ")))) }
@@ -84,7 +85,7 @@ fn numbers(alloc: Global, pushes: u32, moves: u32) -> Result<String, AllocError>
     format!(in alloc; "best {pushes} {moves} ")
 }
 
-/// The line of a verdict.
+/// Returns the line of a verdict.
 fn verdict_line(verdict: Verdict) -> &'static str
     ensures { result.now ≡ verdict_line verdict }
 {

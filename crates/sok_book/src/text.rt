@@ -1,4 +1,4 @@
-//! A text of all levels of a book, as it is asked for.
+//! The texts of all levels of a book, and which one is wanted.
 
 ghost use Rattle.std.specs.Prelude.{◌≡◌, IfOk};
 ghost use Rattle.sok_book.specs.BookTexts.{book_text};
@@ -10,17 +10,17 @@ use crate::record::Record;
 use sok_rules::fault::Memory;
 use std::alloc::Global;
 
-/// A text of all levels of a book.
+/// Which text of all levels is wanted.
 #[derive(Clone, Copy, PartialEq, Eq)]
 pub enum BookText {
     /// A line for each level.
     Overview,
-    /// A collection of them, in which their best solutions and verdicts are noted where this is
-    /// asked for.
+    /// A collection of the levels. If `solutions` is set, it notes their best solutions and
+    /// verdicts.
     Export { solutions: bool },
 }
 
-/// This text of all levels, in this order.
+/// Returns the wanted text of all levels, in this order.
 pub fn book_text(alloc: Global, records: &[Record], text: BookText) -> Result<Vec<u8>, Memory>
     ensures { IfOk result (λ told. told.items ≡ book_text text (pages_of records.now)) }
 {

@@ -1,4 +1,4 @@
-//! What is kept of a title.
+//! Which part of a title is kept.
 
 ghost use Rattle.std.specs.Prelude.{◌≡◌, ◌↔◌, IsTrue, option_map, position};
 ghost use Rattle.std.specs.List.{before_first};
@@ -9,9 +9,9 @@ ghost use Rattle.sok_book.specs.Titles.{IsTitle, KeptAreTitles, TitlesAreKept};
 
 use sok_text::title::{is_space, trim_front};
 
-/// The title that is kept of a text, as a slice of it: what stands before the first LF, without
-/// spaces and tabs at its front, and without spaces, tabs and CRs at its back. None where nothing
-/// is left.
+/// Returns the title that is kept, as a slice of `text`: its first line, up to an LF, without
+/// spaces and tabs at its front, and without spaces, tabs and CRs at its back. `None` if nothing is
+/// left.
 pub fn kept_title(text: &[u8]) -> Option<&[u8]>
     ensures { option_map (λ title. title.now) result ≡ kept_title text.now }
 {
@@ -19,7 +19,7 @@ pub fn kept_title(text: &[u8]) -> Option<&[u8]>
     if title.is_empty() { None } else { Some(title) }
 }
 
-/// Whether a text is a title, as it would be kept.
+/// Returns whether a text is a title exactly as it would be kept.
 pub fn is_title(text: &[u8]) -> bool
     ensures { IsTrue result ↔ IsTitle text.now }
 {
@@ -29,7 +29,7 @@ pub fn is_title(text: &[u8]) -> bool
     }
 }
 
-/// What stands before the first LF.
+/// Returns what stands before the first LF, or all if there is none.
 fn first_line(text: &[u8]) -> &[u8]
     ensures { result.now ≡ before_first is_newline text.now }
 {
@@ -39,7 +39,7 @@ fn first_line(text: &[u8]) -> &[u8]
     }
 }
 
-/// The place of the first LF.
+/// Returns the place of the first LF.
 fn line_end(text: &[u8]) -> Option<usize>
     ensures { result ≡ position is_newline text.now }
 {
@@ -62,8 +62,8 @@ fn is_end_blank(byte: u8) -> bool
     is_space(byte) || byte == b'\r'
 }
 
-/// What is kept of a text is a title: it is not empty, has one line, no space or tab at its ends
-/// and no CR at its back. And a title is kept as it is, so that it is kept twice as once.
+/// A kept title is not empty, has one line, no space or tab at its ends and no CR at its back. Such
+/// a title is kept unchanged, so keeping a title twice is the same as keeping it once.
 pub fn titles_stay()
     ensures kept { KeptAreTitles }
     ensures same { TitlesAreKept }

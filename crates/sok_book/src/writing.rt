@@ -11,7 +11,7 @@ use sok_text::lurd::print_lurd;
 use sok_text::print::print_level;
 use std::alloc::Global;
 
-/// The canonical text of a level.
+/// Returns the canonical text of a level.
 pub fn text_of(alloc: Global, level: &Level) -> Result<String, Memory>
     ensures { IfOk result (λ text. string_bytes text ≡ level_text level.now) }
 {
@@ -19,8 +19,8 @@ pub fn text_of(alloc: Global, level: &Level) -> Result<String, Memory>
     Ok(String::from_utf8(bytes).unwrap())
 }
 
-/// The marked text of letters that are played from the start of a level: upper case exactly where
-/// they push. It ends before a letter that is not legal.
+/// Returns the marked text of letters that are played from the start of a level: a letter is in
+/// upper case exactly if it pushes. The text ends before the first letter that is not legal.
 pub fn lurd_of(alloc: Global, level: &Level, letters: &[Dir]) -> Result<String, Memory>
     ensures { IfOk result (λ text. string_bytes text ≡ lurd_of level.now letters.now) }
 {
@@ -28,7 +28,7 @@ pub fn lurd_of(alloc: Global, level: &Level, letters: &[Dir]) -> Result<String, 
     Ok(String::from_utf8(bytes).unwrap())
 }
 
-/// The bytes of that text.
+/// Returns the bytes of that text.
 fn marked(alloc: Global, level: &Level, letters: &[Dir]) -> Result<Vec<u8>, Memory>
     ensures { IfOk result (λ text. text.items ≡ lurd_of level.now letters.now) }
 {

@@ -1,4 +1,4 @@
--- What the parts of a stream are seen as, and what they keep to.
+-- The views of the parts of a stream, and their invariants.
 use Rattle.std.specs.Prelude.{ℕ, ◌≡◌, ◌++◌, List, vec_len}
 use Rattle.sok_board.specs.Area.{BoardView}
 use Rattle.sok_bar.specs.Memos.{KeepsClosed}
@@ -11,7 +11,7 @@ use Rattle.sok_cert.specs.Streams.{Progressed, StandsFor}
 abbrev pub rostered_of : Roster → Rostered
 rostered_of r = record { roll = r.roll; fault = r.fault }
 
--- states of a board, positions of patterns that are closed on it, and what makes its keys
+-- the roll has states of the board, the memo has pattern positions that are closed on it, and the normalizer makes its keys
 pub record IsRosterOf (b : BoardView) (r : Roster) : Type 0 where
   pub roll : IsOfBoard b r.roll
   pub memo : KeepsClosed b r.memo
@@ -20,7 +20,7 @@ pub record IsRosterOf (b : BoardView) (r : Roster) : Type 0 where
 abbrev pub progressed_of : Progress → Progressed
 progressed_of p = record { stage = p.stage; lines = vec_len p.ended; line = p.line.items; wrong = p.wrong; roster = rostered_of p.roster }
 
--- the part of a piece before a rest of it is taken
+-- the stream has read the part of a piece that comes before a rest
 pub record IsTaken (b : BoardView) (old now : Progressed) (piece rest : List ℕ) : Type 0 where
   pub done : List ℕ
   pub whole : piece ≡ done ++ rest

@@ -1,4 +1,4 @@
--- Why a list of entries is not closed: the first fault, entry by entry, and then those of all entries.
+-- Why a list of entries is not closed: the first fault of a single entry, in order of the list, or else the first fault of the list as a whole.
 use Rattle.std.specs.Prelude.{ℕ, ◌≡◌, ◌<◌, List, Some, false, IsTrue, length, slice_get}
 use Rattle.sok_rules.specs.Play.{AllOnGoals}
 use Rattle.sok_rules.specs.States.{Same}
@@ -12,7 +12,7 @@ use Rattle.sok_entry.specs.declared.fault.CertFault.{CertFault}
 use Rattle.sok_entry.specs.declared.fault.CertFault.TheVariants as fault
 use Rattle.sok_cert.specs.Closed.{IsPosition, IsBarredBy, IsStarter, is_expanded, node_of, entry_position}
 
--- no entry before a place is of the entry's state
+-- no earlier entry has the same state
 abbrev pub IsNew : BoardView → List Entry → ℕ → Entry → Type 0
 IsNew b entries i e = fine.IsNew node_of b entries i e
 
@@ -20,18 +20,18 @@ IsNew b entries i e = fine.IsNew node_of b entries i e
 abbrev pub IsFine : BoardView → Claim → List Entry → ℕ → Entry → Type 0
 IsFine b claim entries i e = fine.IsFine node_of b (length (boxes_of b)) (IsBarredBy b claim) entries i e
 
--- so are all entries before a place
+-- all entries before a place are fine
 abbrev pub AreFine : BoardView → Claim → List Entry → ℕ → Type 0
 AreFine b claim entries n = fine.AreFine node_of b (length (boxes_of b)) (IsBarredBy b claim) entries n
 
--- the first entry with a fault of its own
+-- the entry at a place has a fault of its own, and all entries before it are fine
 pub record IsFaulty (b : BoardView) (claim : Claim) (entries : List Entry) (i : ℕ) (Fault : Entry → Type 0) : Type 0 where
   pub entry : Entry
   pub there : slice_get entries i ≡ Some entry
   pub before : AreFine b claim entries i
   pub fault : Fault entry
 
--- an earlier entry of the entry's state
+-- an earlier entry has the same state
 pub record IsRepeated (b : BoardView) (entries : List Entry) (i : ℕ) (e : Entry) : Type 0 where
   pub position : IsPosition b e
   pub place : ℕ
@@ -40,21 +40,21 @@ pub record IsRepeated (b : BoardView) (entries : List Entry) (i : ℕ) (e : Entr
   pub there : slice_get entries place ≡ Some earlier
   pub same : Same b.rows (entry_position b earlier) (entry_position b e)
 
--- expanded, with all boxes on goals
+-- the entry is expanded, with all boxes on goals
 pub record IsSolved (b : BoardView) (entries : List Entry) (i : ℕ) (e : Entry) : Type 0 where
   pub position : IsPosition b e
   pub new : IsNew b entries i e
   pub expanded : IsTrue (is_expanded e.reason)
   pub solved : AllOnGoals b.rows (entry_position b e)
 
--- not expanded, with a reason that does not bar
+-- the entry is not expanded, and its reason does not bar it
 pub record IsUnreasoned (b : BoardView) (claim : Claim) (entries : List Entry) (i : ℕ) (e : Entry) : Type 0 where
   pub position : IsPosition b e
   pub new : IsNew b entries i e
   pub barring : is_expanded e.reason ≡ false
   pub fails : IsBarredBy b claim e → ⊥
 
--- a push from an expanded entry leads to no entry at most one deeper
+-- a push from an expanded entry leads to no entry that is at most one deeper
 abbrev pub IsOpen : BoardView → List Entry → Entry → Push → Type 0
 IsOpen b entries e push = lookup.IsOpen node_of b entries e push
 
@@ -62,7 +62,7 @@ IsOpen b entries e push = lookup.IsOpen node_of b entries e push
 abbrev pub IsFirstOpen : BoardView → List Entry → ℕ → Push → Type 0
 IsFirstOpen b entries i push = lookup.IsFirstOpen node_of b entries i push
 
--- the fault's cause holds, and no earlier one does
+-- the cause of the fault holds, and no earlier cause does
 abbrev pub IsRefused : BoardView → Claim → List Entry → CertFault → Type 0
 IsRefused b claim entries (fault.BadEntry i) = IsFaulty b claim entries i (λ e. IsPosition b e → ⊥)
 IsRefused b claim entries (fault.Duplicate i) = IsFaulty b claim entries i (IsRepeated b entries i)

@@ -16,11 +16,11 @@ pub record Rostered : Type 0 where
   pub roll : Rolled
   pub fault : Option CertFault
 
--- entries without a fault of their own, and the roll of their states
+-- the entries are fine, and the roll has their states
 abbrev pub AreEntered : BoardView → Claim → List Entry → Rolled → Type 0
 AreEntered b claim entries roll = fine.AreEntered node_of b (length (boxes_of b)) (IsBarredBy b claim) entries roll
 
--- the fault of an entry by itself
+-- a fault that a single entry can have
 abbrev pub IsOwn : CertFault → Type 0
 IsOwn (fault.BadEntry i) = Unit {0}
 IsOwn (fault.Duplicate i) = Unit {0}
@@ -33,7 +33,7 @@ IsOwn fault.Start = ⊥
 IsOwn (fault.OpenPush i square d) = ⊥
 IsOwn fault.Memory = ⊥
 
--- the roll of entries that are fine, or the first fault that one has
+-- without a fault: the entries are fine, and the roll has their states; otherwise: the first fault of a single entry
 abbrev pub TellsEntries : BoardView → Claim → List Entry → Rolled → Option CertFault → Type 0
 TellsEntries b claim entries roll None = AreEntered b claim entries roll
 TellsEntries b claim entries roll (Some f) = IsOwn f × IsRefused b claim entries f

@@ -1,4 +1,4 @@
--- What a stream of a certificate's bytes has come to.
+-- What a stream knows of the bytes that it has read.
 use Rattle.std.specs.Prelude.{ℕ, ◌≡◌, ◌++◌, List, Option, Some, None, length}
 use Rattle.sok_board.specs.Area.{BoardView}
 use Rattle.sok_entry.specs.declared.claim.Claim.{Claim}
@@ -10,8 +10,8 @@ use Rattle.sok_entry.specs.Stages.{IsSplit, IsStage, MayClaim}
 use Rattle.sok_entry.specs.Text.{SpellsCertificate}
 use Rattle.sok_cert.specs.Rosters.{Rostered, TellsEntries}
 
--- what was read so far: what comes next, how many lines ended, the bytes of the line that did not yet, why the text is no certificate, if that is known,
--- and the entries
+-- What was read so far: what comes next, the number of ended lines, the bytes of the line that has no end yet, the fault of the text if it is known, and the
+-- judged entries.
 pub record Progressed : Type 0 where
   pub stage : Stage
   pub lines : ℕ
@@ -19,12 +19,12 @@ pub record Progressed : Type 0 where
   pub wrong : Option CertFault
   pub roster : Rostered
 
--- lines with entries bring a certificate to a stage, and each entry is judged
+-- these lines, with these entries, bring the certificate to a stage, and the roster has judged each entry
 pub record AreJudged (b : BoardView) (stage : Stage) (roster : Rostered) (ls : List (List ℕ)) (entries : List Entry) : Type 0 where
   pub at : IsStage ls entries stage
   pub tells : (claim : Claim) → MayClaim stage claim → TellsEntries b claim entries roster.roll roster.fault
 
--- so do the lines of a text, up to the one that is not ended yet
+-- the same of a text: its ended lines bring the certificate there, and the rest is the line that has no end yet
 pub record IsReadSo (b : BoardView) (text : List ℕ) (p : Progressed) : Type 0 where
   pub passed : List (List ℕ)
   pub entries : List Entry
@@ -36,11 +36,11 @@ abbrev pub StandsBy : BoardView → List ℕ → Progressed → Option CertFault
 StandsBy b text p None = IsReadSo b text p
 StandsBy b text p (Some fault) = (more : List ℕ) → GoesWrong (text ++ more) fault
 
--- what was read is the text: its lines, entries and faults; or it goes wrong in this way, whatever comes behind it
+-- The text is what was read: its lines, entries and faults. Or it goes wrong with a known fault, whatever follows.
 abbrev pub StandsFor : BoardView → List ℕ → Progressed → Type 0
 StandsFor b text p = StandsBy b text p p.wrong
 
--- a stream, with the board that it judges by
+-- a stream, with the board that its certificate is judged on
 pub record Streamed : Type 0 where
   pub board : BoardView
   pub progress : Progressed
@@ -51,12 +51,12 @@ pub record Ending : Type 0 where
   pub claim : Claim
   pub roster : Rostered
 
--- it stands for a text that is a certificate
+-- the text is a certificate with this claim, and the roster has judged its entries
 pub record EndsFor (text : List ℕ) (e : Ending) : Type 0 where
   pub entries : List Entry
   pub spelled : SpellsCertificate text e.claim entries
   pub tells : TellsEntries e.board e.claim entries e.roster.roll e.roster.fault
 
--- the end of a stream that has come so far, with what is claimed
+-- the end of a stream with this progress and this claim
 abbrev pub ending_of : BoardView → Claim → Progressed → Ending
 ending_of b claim p = record { board = b; claim = claim; roster = p.roster }

@@ -10,7 +10,7 @@ use Rattle.sok_entry.specs.Text.{SpellsCertificate}
 use Rattle.sok_cert.specs.Closed.{IsClosed, IsTrueOf}
 use Rattle.sok_cert.specs.Refusals.{IsRefused}
 
--- the text is a certificate that is closed, and what it claims is true of the level
+-- the text is a closed certificate, and its claim is true of the level
 pub record IsProofOf (b : BoardView) (text : List ℕ) (claim : Claim) : Type 0 where
   pub entries : List Entry
   pub spelled : SpellsCertificate text claim entries

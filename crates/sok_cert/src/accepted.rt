@@ -1,4 +1,4 @@
-//! What a certificate that was accepted shows.
+//! What an accepted certificate shows.
 
 ghost use Rattle.std.specs.Prelude.{◌≡◌, ◌⊎◌, Err, IfErr, IfOk, IsOk, OnOk};
 ghost use Rattle.sok_entry.specs.declared.fault.CertFault.TheVariants as cert;
@@ -11,8 +11,8 @@ use sok_rules::level::Level;
 use std::alloc::Global;
 use std::marker::Model;
 
-/// What a certificate that was accepted shows: a claim that is true of its level. It is made by
-/// `check`, and by the end of a `Stream`. It is seen as the level's rows and the claim.
+/// What an accepted certificate shows: a claim that is true of its level. Only `check` and
+/// `Ended::judge` make one. The contracts see it as the level's rows and the claim.
 #[derive(Drop)]
 pub struct Accepted {
     level: Level,
@@ -31,8 +31,8 @@ impl Model for Accepted {
 }
 
 impl Accepted {
-    /// The claim that was judged. It is true of the level: no text of letters solves it with fewer
-    /// pushes than claimed, or none solves it.
+    /// Returns the claim, which is true of the level: no solution has fewer pushes than it says, or
+    /// there is no solution.
     pub fn claim(&self) -> Claim
         ensures claim { result ≡ self.now.claim }
         ensures shown { IsTrueOf self.now.rows result }
@@ -40,7 +40,8 @@ impl Accepted {
         self.claim
     }
 
-    /// A claim of a board's level, if it was judged without a fault.
+    /// Returns the accepted claim about the level of `board`, if `judged` is no fault. Errors: the
+    /// fault in `judged`; `Memory`.
     pub(crate) fn of(
         alloc: Global,
         board: &Board,

@@ -18,11 +18,14 @@ use sok_entry::entry::{Certificate, Entry};
 use sok_entry::fault::CertFault;
 use std::alloc::Global;
 
-/// Judges a certificate. It is accepted exactly where its entries are closed, and then its claim is
-/// true of the board's level, whoever wrote it. Else the answer is its first fault: entry by entry
-/// one that is no position of the board, that is the state of an earlier one, that is expanded with
-/// all boxes on goals, or whose reason does not hold; then no entry of depth 0 that is the start;
-/// last the first push from an expanded entry that leads to no entry at most one deeper.
+/// Checks a certificate. It is accepted exactly if its entries are closed. Then its claim is true
+/// of the board's level, whoever wrote it.
+///
+/// Errors: the first fault. First those of single entries, in order of the list: `BadEntry` if it
+/// is no position of the board; `Duplicate` if an earlier entry has its state; `SolvedEntry` if it
+/// is expanded with all boxes on goals; `BadReason` if its reason does not hold. Then `Start` if no
+/// entry of depth 0 is the start. Last `OpenPush`, for the first push from an expanded entry that
+/// leads to no entry at most one deeper. `Memory` at any time.
 pub fn check(alloc: Global, board: &Board, certificate: &Certificate) -> Result<Accepted, CertFault>
     ensures claim { IfOk result (λ accepted. accepted.claim ≡ certificate.now.claim) }
     ensures level { IfOk result (λ accepted. accepted.rows ≡ board.now.rows) }
@@ -34,7 +37,7 @@ pub fn check(alloc: Global, board: &Board, certificate: &Certificate) -> Result<
     judged(alloc, board, certificate)
 }
 
-/// The same, but for what is said of all answers.
+/// Does the work of `check`. That function adds the clause `exact`.
 fn judged(alloc: Global, board: &Board, certificate: &Certificate) -> Result<Accepted, CertFault>
     ensures claim { IfOk result (λ accepted. accepted.claim ≡ certificate.now.claim) }
     ensures level { IfOk result (λ accepted. accepted.rows ≡ board.now.rows) }
@@ -43,7 +46,7 @@ fn judged(alloc: Global, board: &Board, certificate: &Certificate) -> Result<Acc
     ensures refused { IfErr result
         (IsRefused board.now certificate.now.claim certificate.now.entries.items) }
 {
-    // Its clauses tell that the level is accepted.
+    // Called for its clauses, which say that the level is accepted.
     let _level = board.level();
     let judged = judge_entries(
         alloc,
@@ -54,7 +57,7 @@ fn judged(alloc: Global, board: &Board, certificate: &Certificate) -> Result<Acc
     Accepted::of(alloc, board, certificate.claim, judged)
 }
 
-/// Judges the entries of a list.
+/// Checks the entries of a certificate.
 fn judge_entries(
     alloc: Global,
     board: &Board,
@@ -75,7 +78,7 @@ fn judge_entries(
     judged
 }
 
-/// Judges each entry by itself, on a roster without entries, and then all of them.
+/// Judges each entry by itself, with an empty roster, and then the list as a whole.
 fn enter_all(
     alloc: Global,
     setting: &Setting<'_>,

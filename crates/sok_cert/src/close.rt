@@ -1,4 +1,4 @@
-//! Whether entries that are fine, each by itself, are closed.
+//! The check of a list whose entries are fine: is it closed?
 
 ghost use Rattle.std.specs.Prelude.{◌≤◌, ◌↔◌, IfOk, IsTrue, List, MatchResult, length};
 ghost use Rattle.sok_board.specs.Area.{IsAccepted, boxes_of};
@@ -16,8 +16,9 @@ use sok_rules::fault::Memory;
 use sok_state::key::Key;
 use std::alloc::Global;
 
-/// Judges the roll of entries that are fine, each by itself: whether the start is among them, and
-/// then whether each push from those that are expanded leads to one of them.
+/// Checks that a list of fine entries is closed, given their roll. Errors: `Start` if the start is
+/// not among them; then `OpenPush` if a push from an expanded entry leads to none of them;
+/// `Memory`.
 pub(crate) fn close(alloc: Global, board: &Board, roll: &Roll) -> Result<(), CertFault>
     requires accepted { IsAccepted board.now }
     requires of_board { IsOfBoard board.now roll.now }
@@ -34,7 +35,7 @@ pub(crate) fn close(alloc: Global, board: &Board, roll: &Roll) -> Result<(), Cer
     }
 }
 
-/// Whether the start's state stands in a roll of entries at depth 0.
+/// Returns whether the state of the start is in the roll, at depth 0.
 fn has_start(alloc: Global, board: &Board, roll: &Roll) -> Result<bool, Memory>
     requires { length board.now.area ≤ roll.now.room }
     ensures { (entries : List Entry)

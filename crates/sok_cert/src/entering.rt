@@ -1,4 +1,4 @@
-//! The state of an entry, entered into the roll of those before it.
+//! Enters the state of an entry into the roll of those before it.
 
 ghost use Rattle.std.specs.Prelude.{◌≡◌, ◌++◌, ◌∷◌, [], IfOk, List, MatchOption};
 ghost use Rattle.sok_board.specs.Area.{IsAccepted};
@@ -23,9 +23,9 @@ use sok_rules::fault::Memory;
 use sok_state::normalizer::Normalizer;
 use std::alloc::Global;
 
-/// Enters the state of an entry into the roll of those before it. If the entry has a fault of its
-/// own, it is told, and the roll is of no more use. The normalizer makes the keys of the board, and the
-/// memo keeps the positions of patterns.
+/// Enters the state of an entry into the roll of the entries before it. Returns the fault of the
+/// entry, if it has one of its own; the roll is then unspecified. The normalizer makes the keys of
+/// the board, and the memo keeps judged pattern positions.
 pub(crate) fn enter(
     alloc: Global,
     setting: &Setting<'_>,
@@ -57,7 +57,7 @@ pub(crate) fn enter(
     Ok(fault_of(found, index))
 }
 
-/// The fault that is found of an entry, if there is one.
+/// Returns the fault of the entry at `index` that a finding means, if any.
 fn fault_of(found: Finding, index: usize) -> Option<CertFault>
     ensures { result ≡ fault_of found index }
 {
@@ -68,8 +68,8 @@ fn fault_of(found: Finding, index: usize) -> Option<CertFault>
     }
 }
 
-/// The boxes and the state of an entry that is a position with all boxes of the board, and None
-/// where it is none. It refuses only for want of memory.
+/// Returns the boxes and the state of an entry, or None if it is no position with all boxes of the
+/// board.
 fn locate_entry(
     alloc: Global,
     board: &Board,

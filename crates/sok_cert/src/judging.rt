@@ -1,4 +1,4 @@
-//! What is found of an entry that is a position: whether it may stand, by its reason.
+//! Whether the reason of an entry holds.
 
 ghost use Rattle.std.specs.Prelude.{◌≡◌, IfOk};
 ghost use Rattle.sok_board.specs.Area.{IsAccepted};
@@ -18,18 +18,18 @@ use sok_entry::entry::Entry;
 use sok_rules::fault::Memory;
 use std::alloc::Global;
 
-/// What is found of an entry.
+/// What the checker finds of an entry that is a position.
 #[derive(Clone, Copy, PartialEq, Eq)]
 pub(crate) enum Finding {
-    /// It may stand: its reason bars, or it is expanded with a box off a goal.
+    /// No fault: its reason bars it, or it is expanded with a box off a goal.
     Fine,
-    /// It is expanded, and all its boxes stand on goals.
+    /// It is expanded, and all its boxes are on goals.
     Solved,
-    /// It has another reason, which does not bar.
+    /// It is not expanded, and its reason does not bar it.
     Unreasoned,
 }
 
-/// Whether an entry may stand, given with its boxes. It refuses only for want of memory.
+/// Judges an entry that is a position with these boxes.
 pub(crate) fn judge(
     alloc: Global,
     setting: &Setting<'_>,

@@ -1,18 +1,19 @@
-//! The checker of certificates: lists of positions that show how many pushes a level needs, or that
-//! no text solves it. What a certificate is, and its text, comes from `sok_entry` and is passed on.
+//! The checker of certificates. A certificate is a list of positions that shows how many pushes a
+//! level needs, or that it has no solution. `sok_entry` defines certificates and their text; they
+//! are re-exported here.
 //!
 //! | Module | What it holds |
 //! |---|---|
-//! | `accepted` | what a certificate that was accepted shows |
+//! | `accepted` | what an accepted certificate shows |
 //! | `check` | the checker |
-//! | `close` | whether entries that are fine are closed (private) |
-//! | `entering` | the state of an entry, entered into a roll (private) |
-//! | `judging` | what is found of an entry by its reason (private) |
-//! | `law` | a closed certificate is true; a list has one judgement, and a text one verdict |
-//! | `progress` | how far a certificate has come that is read in pieces (private) |
-//! | `reason` | what rests of a claim at a depth, and which entries are expanded (private) |
+//! | `close` | whether a list of fine entries is closed (private) |
+//! | `entering` | enters the state of an entry into the roll (private) |
+//! | `judging` | whether the reason of an entry holds (private) |
+//! | `law` | closed certificates are true; a list and a text have one verdict |
+//! | `progress` | the state of a certificate that is read in pieces (private) |
+//! | `reason` | what is left of a claim at a depth, and which entries are expanded (private) |
 //! | `roster` | entries that are judged one by one (private) |
-//! | `stream` | certificates that are judged as they are read |
+//! | `stream` | certificates that are checked as they are read |
 #![tactic(auto)]
 
 pub mod accepted;

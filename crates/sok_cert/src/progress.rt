@@ -1,4 +1,4 @@
-//! A certificate that is read in pieces: how far it has come.
+//! The state of a certificate that is read in pieces.
 
 ghost use Rattle.std.specs.Prelude.{ℕ, ◌≡◌, ◌<◌, ◌^◌, ◌++◌, ◌∷◌, [], List, IfOk, IsTrue, MatchOption};
 ghost use Rattle.std.specs.Prelude.{MatchResult, OnOk, length};
@@ -27,25 +27,25 @@ use sok_text::line::{cut_at_end, without_return};
 use std::alloc::{AllocError, Global};
 use std::mem;
 
-/// How far a certificate has come: what comes next in it, the bytes of the line that is not ended
-/// yet, why the text goes wrong, if that is known, and its entries so far, each of which was judged.
-/// A refusal leaves it of no use.
+/// The state of a certificate that is read in pieces: what comes next, the bytes of the line that
+/// has no end yet, the fault of the text if it is known, and the entries so far, each of which is
+/// judged. After an error it is unspecified.
 #[derive(Drop)]
 pub(crate) struct Progress {
     pub(crate) stage: Stage,
-    /// As many as there are lines that ended: a list of nothing, which takes no memory.
+    /// Counts the lines that have ended. A list of `()` takes no memory.
     pub(crate) ended: Vec<()>,
     pub(crate) line: Vec<u8>,
-    /// A place for the numbers of a line.
+    /// A buffer for the numbers of a line.
     pub(crate) numbers: Vec<u32>,
-    /// The inner positions of patterns that were read, which may come again.
+    /// Inner positions of patterns that were read. The same lines may come again.
     pub(crate) known: Known,
     pub(crate) wrong: Option<CertFault>,
     pub(crate) roster: Roster,
 }
 
 impl Progress {
-    /// Nothing is read.
+    /// Returns the state before the first byte.
     pub(crate) fn new(alloc: Global, board: &Board) -> Progress
         ensures nothing { StandsFor board.now [] (progressed_of result) }
         ensures of_board { IsRosterOf board.now result.roster }
@@ -61,12 +61,12 @@ impl Progress {
         }
     }
 
-    /// Lets go of what was read.
+    /// Frees what was read.
     pub(crate) fn let_go(self) {
         self.roster.let_go();
     }
 
-    /// Reads one more piece.
+    /// Reads the next piece.
     pub(crate) fn take(
         &mut self,
         alloc: Global,
@@ -89,7 +89,8 @@ impl Progress {
         self.keep(rest)
     }
 
-    /// What a text claims that ends here, or why it is no certificate. It takes no memory.
+    /// Returns the claim of the text, if it ends here. Takes no memory. Errors: the fault of the
+    /// text, if it is no certificate.
     pub(crate) fn ended(&self) -> Result<Claim, CertFault>
         ensures { (b : BoardView) (text : List ℕ) → StandsFor b text (progressed_of self.now)
             → MatchResult result (λ claim. EndsFor text
@@ -101,7 +102,7 @@ impl Progress {
         self.stage.ended(self.line.as_slice(), self.ended.len())
     }
 
-    /// Reads the bytes of a line up to its end.
+    /// Reads the last bytes of a line that ends, without its LF.
     fn end_line(&mut self, alloc: Global, setting: &Setting<'_>, part: &[u8]) -> Result<(), Memory>
         requires accepted { IsAccepted setting.now.board.now }
         requires of_board { IsRosterOf setting.now.board.now self.old.roster }
@@ -134,8 +135,8 @@ impl Progress {
         Ok(())
     }
 
-    /// Passes the lines of the inner positions of a pattern, all of them, where it is begun and they
-    /// are known. The rest of the piece behind them is left.
+    /// Skips all lines of the inner positions of a pattern at once, if only its first line has been
+    /// read and `rest` begins with lines that are known. Returns what is left of the piece.
     fn pass_known<'p>(
         &mut self,
         alloc: Global,
@@ -166,8 +167,8 @@ impl Progress {
         Ok(behind)
     }
 
-    /// Keeps bytes of a line that is not ended yet. Of one of the first two lines it keeps no more
-    /// than may stand there: once it is longer, the text goes wrong, whatever comes.
+    /// Keeps bytes of a line that has no end yet. A first or second line that is longer than
+    /// `FRONT` is not kept: the text goes wrong with `Header`, whatever follows.
     fn keep(&mut self, part: &[u8]) -> Result<(), Memory>
         requires unended { IsUnended part.now }
         ensures stands { (b : BoardView) (text : List ℕ) → StandsFor b text (progressed_of self.old)
@@ -187,10 +188,10 @@ impl Progress {
     }
 }
 
-/// No header and no claim is as long.
+/// A limit in bytes for the first two lines. No header and no claim is as long.
 const FRONT: usize = 64;
 
-/// Whether a line that is not ended yet is one of the first two, and too long.
+/// Returns whether a line that has no end yet is one of the first two, and too long.
 fn is_too_long(stage: &Stage, line: &[u8]) -> bool
     ensures { IsTrue result → (text : List ℕ) (ls : List (List ℕ)) (es : List Entry)
         → IsSplit text ls line.now → IsStage ls es stage.now
@@ -205,9 +206,9 @@ fn is_too_long(stage: &Stage, line: &[u8]) -> bool
     }
 }
 
-/// Reads a line that has its end, behind so many, and judges the entry if it is the last line of
-/// one. If the text goes wrong with it, that fault is told. The list is a place for its numbers, and
-/// the inner positions of a pattern are known from then on.
+/// Reads a line that has ended, after `lines` others, and judges the entry that it completes, if
+/// any. Returns the fault if the text goes wrong with this line. `numbers` is a buffer for the
+/// numbers of the line, and `known` keeps the inner positions of a pattern that is complete.
 fn judge_line(
     alloc: Global,
     setting: &Setting<'_>,
@@ -245,8 +246,8 @@ fn keep(alloc: Global, known: &mut Known, read: &LineRead) -> Result<(), AllocEr
     Ok(())
 }
 
-/// Judges the entry whose last line was read, if it was one, and tells what comes next. If the text
-/// goes wrong, that fault is told.
+/// Judges the entry that a line completes, if it does, and sets the next stage. Returns the fault
+/// if the text goes wrong.
 fn judge_read(
     alloc: Global,
     setting: &Setting<'_>,

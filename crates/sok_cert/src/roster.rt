@@ -22,9 +22,9 @@ use sok_rules::fault::Memory;
 use sok_state::normalizer::Normalizer;
 use std::alloc::Global;
 
-/// Entries that are judged one by one. Of each the state is kept, with its depth and whether it is
-/// expanded, up to the first that has a fault of its own; then that fault. A memo keeps positions of
-/// patterns that were judged, and a normalizer makes the keys.
+/// Entries that are judged one by one. The roll keeps the state and the depth of each, and whether
+/// it is expanded, up to the first entry with a fault of its own; then that fault is kept. The memo
+/// keeps pattern positions that were judged, and the normalizer makes the keys.
 #[derive(Drop)]
 pub(crate) struct Roster {
     pub(crate) roll: Roll,
@@ -34,7 +34,7 @@ pub(crate) struct Roster {
 }
 
 impl Roster {
-    /// A roster without entries, for a board.
+    /// Returns an empty roster for a board.
     pub(crate) fn new(alloc: Global, board: &Board) -> Roster
         ensures none { (claim : Claim)
             → TellsEntries board.now claim [] result.roll result.fault }
@@ -48,12 +48,12 @@ impl Roster {
         }
     }
 
-    /// Lets go of the roster.
+    /// Frees the roster.
     pub(crate) fn let_go(self) {
         self.roll.let_go();
     }
 
-    /// Judges one more entry.
+    /// Judges the next entry. Does nothing if an earlier one has a fault.
     pub(crate) fn enter(
         &mut self,
         alloc: Global,
@@ -84,8 +84,8 @@ impl Roster {
         Ok(())
     }
 
-    /// Judges the entries, all of them: the first fault of one by itself, and then those of the
-    /// list.
+    /// Checks all entries. Errors: the first fault of a single entry, or else that of the list as a
+    /// whole; `Memory`.
     pub(crate) fn close(&self, alloc: Global, board: &Board) -> Result<(), CertFault>
         requires accepted { IsAccepted board.now }
         requires of_board { IsOfBoard board.now self.now.roll }

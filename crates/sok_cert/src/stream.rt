@@ -1,4 +1,4 @@
-//! Certificates that are judged as they are read.
+//! Certificates that are checked as they are read.
 
 ghost use Rattle.std.specs.Prelude.{ℕ, ◌≡◌, ◌⊎◌, ◌++◌, [], List, Err, IfErr, IfOk, MatchResult};
 ghost use Rattle.std.specs.Prelude.{Ok};
@@ -24,11 +24,11 @@ use sok_rules::fault::Memory;
 use std::alloc::Global;
 use std::marker::Model;
 
-/// A certificate for a board, judged as its bytes come, in whatever pieces. Each entry is judged
-/// when its line ends, and of those that are fine only the states are kept. The first fault of an
-/// entry is kept, and reading goes on, since the faults of the text come first. Inner positions of
-/// patterns are kept too, up to a limit: where the same lines come again, they are passed as a whole.
-/// A stream is seen as its board and how far the certificate has come.
+/// A certificate for a board that is checked as its bytes come, in pieces of any size. Each entry
+/// is judged when its last line ends, and of a fine entry only the state is kept. After a faulty
+/// entry its fault is kept and reading goes on, because the faults of the text come first. Inner
+/// positions of patterns are kept too, up to a limit: if the same lines come again, they are
+/// skipped at once. The contracts see a stream as its board and its progress.
 #[derive(Drop)]
 pub struct Stream<'a> {
     alloc: Global,
@@ -56,8 +56,8 @@ impl<'a> Model for Stream<'a> {
         × ((text : List ℕ) × StandsFor stream.board.now text (progressed_of stream.progress)) };
 }
 
-/// What is left of a stream at its end, of a text that is a certificate. It is seen as the board,
-/// the claim, and what the entries came to.
+/// What is left of a stream whose text has ended and is a certificate. The contracts see it as the
+/// board, the claim and the judged entries.
 #[derive(Drop)]
 pub struct Ended<'a> {
     alloc: Global,
@@ -89,7 +89,7 @@ impl<'a> Model for Ended<'a> {
 }
 
 impl<'a> Stream<'a> {
-    /// A stream of which no byte has come. It keeps the allocator for what comes.
+    /// Returns a stream before its first byte. It keeps the allocator for later pieces.
     pub fn new(alloc: Global, board: &'a Board) -> Result<Stream<'a>, Memory>
         ensures nothing { IfOk result (λ stream. StandsFor board.now [] stream.progress) }
         ensures board { IfOk result (λ stream. stream.board ≡ board.now) }
@@ -104,7 +104,7 @@ impl<'a> Stream<'a> {
         })
     }
 
-    /// Takes the next piece. It refuses only for want of memory.
+    /// Reads the next piece. On an error, the stream is freed.
     pub fn take(self, piece: &[u8]) -> Result<Stream<'a>, Memory>
         ensures stands { (text : List ℕ) → StandsFor self.entry.board text self.entry.progress
             → IfOk result (λ stream.
@@ -135,13 +135,13 @@ impl<'a> Stream<'a> {
         }
     }
 
-    /// Lets go of the stream.
+    /// Frees the stream.
     pub fn let_go(self) {
         self.progress.let_go();
     }
 
-    /// Ends the text. Refused is one that is no certificate, for the fault that `read` names. It
-    /// takes no memory.
+    /// Ends the text. Takes no memory. Errors: the fault that `read` reports, if the text is no
+    /// certificate.
     pub fn ended(self) -> Result<Ended<'a>, CertFault>
         ensures ends { (text : List ℕ) → StandsFor self.entry.board text self.entry.progress
             → MatchResult result (EndsFor text) (GoesWrong text) }
@@ -158,7 +158,7 @@ impl<'a> Stream<'a> {
     }
 }
 
-/// The end of a stream, where the text is a certificate.
+/// Returns the end of a stream, if its text is a certificate; otherwise frees the roster.
 fn ending<'a>(
     alloc: Global,
     board: &'a Board,
@@ -188,19 +188,19 @@ fn ending<'a>(
 }
 
 impl Ended<'_> {
-    /// What the certificate claims. It takes no memory.
+    /// Returns what the certificate claims. Takes no memory.
     pub fn claim(&self) -> Claim
         ensures { result ≡ self.now.claim }
     {
         self.claim
     }
 
-    /// Lets go of it.
+    /// Frees the end of the stream.
     pub fn let_go(self) {
         self.roster.let_go();
     }
 
-    /// Judges the certificate, as `check` does with what `read` tells of its text.
+    /// Checks the certificate, as `check` does with what `read` returns for its text.
     pub fn judge(self) -> Result<Accepted, CertFault>
         ensures claim { IfOk result (λ accepted. accepted.claim ≡ self.entry.claim) }
         ensures level { IfOk result (λ accepted. accepted.rows ≡ self.entry.board.rows) }
@@ -222,9 +222,9 @@ impl Ended<'_> {
     }
 }
 
-/// Judges a certificate that comes in pieces. However it is cut, the answer is what `read` and then
-/// `check` tell of the pieces joined, memory aside: a claim that they show, or the first fault of
-/// the text, or of the certificate that it is.
+/// Checks a certificate that comes in pieces. However it is cut, the answer is that of `read` and
+/// then `check` on the joined pieces, apart from `Memory`: a claim that they show, or the first
+/// fault of the text, or of the certificate if the text is one.
 pub fn judge_pieces(alloc: Global, board: &Board, pieces: &[Vec<u8>]) -> Result<Accepted, CertFault>
     ensures level { IfOk result (λ accepted. accepted.rows ≡ board.now.rows) }
     ensures shown { IfOk result (λ accepted.

@@ -5,7 +5,7 @@ use Rattle.sok_state.specs.Keys.{IsKeyOf}
 use Rattle.sok_closed.specs.declared.placing.Located.{Located}
 use Rattle.sok_closed.specs.Rolls.{IsPosition, Node, node_position}
 
--- a node is a position, with these boxes and of this state
+-- the node is a position; these are its boxes and its state
 pub record IsLocated (b : BoardView) (count : ℕ) (n : Node) (found : Located) : Type 0 where
   pub position : IsPosition b count n
   pub boxes_are : found.boxes ≡ n.boxes

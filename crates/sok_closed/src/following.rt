@@ -18,8 +18,8 @@ use sok_state::scene::Scene;
 use sok_state::stepping::square_ahead;
 use sok_state::table::Table;
 
-/// Whether the state that a push leads to from the one at an index of a table is in the table, at
-/// most one deeper.
+/// Returns whether a push from the state at `index` leads to a state in the table that is at most
+/// one deeper.
 fn is_found(
     board: &Board,
     table: &Table,
@@ -45,8 +45,8 @@ fn is_found(
     }
 }
 
-/// The place of the first of some pushes from the state at an index of a table that leads to no
-/// state of it at most one deeper.
+/// Returns the index of the first of these pushes from the state at `index` that leads to no state
+/// in the table, or to one that is more than one deeper.
 fn first_missing(
     board: &Board,
     table: &Table,
@@ -75,8 +75,8 @@ fn first_missing(
     None
 }
 
-/// The first legal push of the state at an index of a table that leads to no state of it at most
-/// one deeper.
+/// Returns the first legal push from the state at `index` that leads to no state in the table, or
+/// to one that is more than one deeper.
 pub(crate) fn open_push(
     board: &Board,
     table: &Table,

@@ -1,12 +1,12 @@
-//! Lists of states that are closed: each push from one that is expanded leads to another of them.
-//! Which others may stand, and what such a list shows, is told above.
+//! Closed lists of states: each push from an expanded state leads to another state of the list. The
+//! crates above say which states need not be expanded, and what such a list shows.
 //!
 //! | Module | What it holds |
 //! |---|---|
 //! | `following` | whether the pushes of a state lead to states of a table (private) |
-//! | `placing` | which numbers make a position, and of which state it is |
+//! | `placing` | which numbers make a position, and its state |
 //! | `roll` | the states of a list, with their depths and marks |
-//! | `solved` | positions in which all boxes stand on goals |
+//! | `solved` | positions with all boxes on goals |
 #![tactic(auto)]
 
 mod following;

@@ -1,4 +1,4 @@
-//! Which numbers make a position, and of which state it is.
+//! Which numbers make a position, and its state.
 
 ghost use Rattle.std.specs.Prelude.{◌≡◌, ◌<◌, ◌≤◌, ◌↔◌, IsTrue, IfOk, MatchOption, All, length};
 ghost use Rattle.std.specs.List.Sorted.{IsStrictlyIncreasing};
@@ -24,9 +24,9 @@ pub struct Located {
     pub key: Key,
 }
 
-/// The boxes and the state of the position that a player and so many boxes make, by numbers of
-/// squares; None where they make none. It refuses only for want of memory. The key is made by what
-/// makes those of the board.
+/// Returns the boxes and the state of the position with this player and these boxes, by numbers of
+/// squares. None if they make no position with `count` boxes. The normalizer is the one of the
+/// board.
 pub fn locate(
     alloc: Global,
     board: &Board,
@@ -51,7 +51,7 @@ pub fn locate(
     Ok(Some(Located { boxes, key }))
 }
 
-/// Whether a player and so many boxes make a position.
+/// Returns whether the player and the boxes make a position with `count` boxes.
 fn is_position(board: &Board, count: usize, player: u32, boxes: &[u32]) -> bool
     ensures { IsTrue result
         ↔ (IsPlaced board.now boxes.now player × (length boxes.now ≡ count)) }
@@ -64,14 +64,14 @@ fn is_position(board: &Board, count: usize, player: u32, boxes: &[u32]) -> bool
         && !boxes.contains(&player)
 }
 
-/// Whether all numbers are below a limit.
+/// Returns whether all numbers are below a limit.
 fn are_below(numbers: &[u32], limit: usize) -> bool
     ensures { IsTrue result ↔ All (λ number. number < limit) numbers.now }
 {
     numbers.iter().all(|number| (*number as usize) < limit)
 }
 
-/// Whether each number is above the one before.
+/// Returns whether each number is greater than the one before.
 pub fn rises(numbers: &[u32]) -> bool
     ensures { IsTrue result ↔ IsStrictlyIncreasing numbers.now }
 {

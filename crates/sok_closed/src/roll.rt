@@ -18,9 +18,9 @@ use sok_state::table::Table;
 use std::alloc::Global;
 use std::marker::Model;
 
-/// The states of a list in their order, each with its depth and a mark: whether it is expanded, so
-/// that every push from it has to lead to another of them. A roll is seen as its keys with their
-/// depths, its room (the squares below that have a bit), and its marks.
+/// The states of a list in order, each with its depth and a mark: whether it is expanded, so that
+/// every push from it has to lead to another of them. The contracts see a roll as its keys with
+/// their depths, its room (only squares below it have a bit), and its marks.
 #[derive(Drop)]
 pub struct Roll {
     table: Table,
@@ -43,8 +43,7 @@ impl Model for Roll {
 }
 
 impl Roll {
-    /// A roll without a state, with room for so many squares. It keeps the allocator for what is
-    /// entered.
+    /// Returns an empty roll with room for this many squares. It keeps the allocator.
     pub fn new(alloc: Global, squares: usize) -> Roll
         requires { squares ≤ square_limit }
         ensures none { result.entries ≡ [] }
@@ -57,20 +56,20 @@ impl Roll {
         }
     }
 
-    /// Lets go of the roll.
+    /// Frees the roll.
     pub fn let_go(self) {
         self.table.let_go();
     }
 
-    /// How many states were entered.
+    /// Returns the number of states.
     pub fn len(&self) -> usize
         ensures { result ≡ length self.now.marks }
     {
         self.marks.len()
     }
 
-    /// Enters a state behind the others, and tells whether it is new: with one that was entered
-    /// before, the roll stays. Want of memory leaves it as it was, too.
+    /// Appends a state and returns true, or returns false and changes nothing if it was entered
+    /// before. On an error, nothing changes.
     pub fn enter(&mut self, key: &Key, depth: u32, expanded: bool) -> Result<bool, Memory>
         requires { All (λ square. square < self.old.room) key.now.boxes }
         ensures entered { IfOk result
@@ -86,13 +85,13 @@ impl Roll {
         Ok(is_new)
     }
 
-    /// Whether a state was entered at depth 0.
+    /// Returns whether the state was entered at depth 0.
     pub fn starts(&self, key: &Key) -> bool
         requires { All (λ square. square < self.now.room) key.now.boxes }
         ensures { IsTrue result ↔ ((place : ℕ) × IsAt self.now.entries key.now place
             × (slice_get (values_of self.now.entries) place ≡ Some 0)) }
     {
-        // A table tells with its length that no key stands there twice.
+        // Called for its clause that no key is in the table twice.
         let _states = self.table.len();
         match self.table.get(key) {
             Some(index) => self.table.depth(index) == 0,
@@ -100,9 +99,8 @@ impl Roll {
         }
     }
 
-    /// The place of the first expanded state from which a push leads to none of the states, or to
-    /// one that is more than one deeper, and the first such push. It refuses only for want of
-    /// memory.
+    /// Returns the first expanded state with a push that leads to none of the states, or to one
+    /// that is more than one deeper: its index, and its first such push.
     pub fn first_missed(
         &self,
         alloc: Global,
@@ -113,7 +111,7 @@ impl Roll {
         requires wide { length board.now.area ≤ self.now.room }
         ensures { IfOk result (TellsMissed board.now self.now) }
     {
-        // A table tells with its length that no key stands there twice.
+        // Called for its clause that no key is in the table twice.
         let _states = self.table.len();
         let mut squares = Vec::new(alloc);
         let mut expansion = Expansion::new(alloc, board);

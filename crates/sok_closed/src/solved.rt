@@ -1,4 +1,4 @@
-//! Positions in which all boxes stand on goals.
+//! Positions with all boxes on goals.
 
 ghost use Rattle.std.specs.Prelude.{ℕ, ◌<◌, ◌↔◌, IsTrue, All, length};
 ghost use Rattle.sok_rules.specs.Play.{AllOnGoals};
@@ -7,7 +7,7 @@ ghost use Rattle.sok_board.specs.Area.{position_of};
 use sok_board::board::Board;
 use sok_board::box_set::BoxSet;
 
-/// Whether all boxes of a position stand on goals, wherever the player stands.
+/// Returns whether all boxes are on goals, wherever the player stands.
 pub fn is_solved(board: &Board, boxes: &BoxSet) -> bool
     requires exist { All (λ square. square < length board.now.area) boxes.now }
     ensures { (player : ℕ) → IsTrue result

@@ -1,4 +1,4 @@
-//! A file of a book: one of the machine, or a copy of one in memory.
+//! A file of a book: a file of the machine, or a copy of one in memory.
 
 ghost use Rattle.std.specs.Prelude.{refl};
 ghost use Rattle.std.proofs.Common.{inl};
@@ -12,7 +12,7 @@ use std::io;
 pub enum BookFile {
     /// A file of the machine.
     Machine(File),
-    /// What such a file held when it was read, in memory.
+    /// A copy in memory: what such a file held when it was read.
     Copy(Memory),
 }
 

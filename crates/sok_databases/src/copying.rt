@@ -1,13 +1,14 @@
-//! A copy of a database in memory, for a command that changes nothing. It is read as it was last
-//! committed, with no lock and nothing written: so the database may be one that can't be written,
-//! and other processes may be at work on it.
+//! A copy of a database in memory, for a command that changes nothing. It holds what was last
+//! committed. No lock is taken and nothing is written, so the database may be read-only, and other
+//! processes may be using it.
 //!
-//! Whoever changes a database writes to its log, and writes a page to the database file only once
-//! the log has it. There it stays until the log is begun anew, under another salt in its front. So
-//! where that front is the same before the database file was read and behind the log, each page that
-//! was written meanwhile is in the log, and the log over the file is what was last committed. What
-//! was just being written to the log ends it, as behind a crash. A log may also have been made,
-//! copied and emptied meanwhile: then the file was written, and its time tells.
+//! A process that changes a database writes a page to the log first, and to the database file only
+//! once the log has it. The page stays in the log until the log is begun anew, with another salt in
+//! its header. So if the header is the same before the database file is read and after the log is,
+//! each page written in between is in the log, and the file under the log is what was last
+//! committed. A write to the log in progress ends the log, as after a crash. A log may also be
+//! made, copied and emptied in between: then the database file was written, and its time of change
+//! shows it.
 
 ghost use Rattle.std.specs.Prelude.{◌≡◌, IfOk, IsTrue};
 ghost use Rattle.sqlite_disk.specs.Memory.{memory_bytes, memory_is_usable};
@@ -25,12 +26,12 @@ use std::fs;
 use std::io::{self, ErrorKind, Read};
 use std::os::unix::fs::MetadataExt;
 
-/// Opens a copy of the database that is at a path.
+/// Opens a copy of the database at a path.
 pub(crate) fn copy(
     rt: &HostRuntime,
     path: &str,
 ) -> Result<Connection<FileStore<BookFile>>, Unopened> {
-    // The log is beside the file that a link leads to, as where a database is opened.
+    // The log is beside the file that a link leads to, as when a database is opened.
     let real = fs::canonicalize(rt, path)?;
     let contents = in_turn(rt, || read(rt, real.as_str()))?;
     connect(rt.alloc(), contents)
@@ -43,8 +44,8 @@ struct Contents {
     db: Vec<u8>,
 }
 
-/// Reads the files of a database. It is busy where its log is begun anew meanwhile, or its file
-/// written.
+/// Reads the files of a database. Returns `BUSY` if the log is begun anew or the database file is
+/// written in the meantime.
 fn read(rt: &HostRuntime, path: &str) -> Result<Contents, Unopened> {
     let log_path = format!(in rt.alloc(); "{path}-wal")?;
     let journal_path = format!(in rt.alloc(); "{path}-journal")?;
@@ -57,7 +58,7 @@ fn read(rt: &HostRuntime, path: &str) -> Result<Contents, Unopened> {
         Ok(log) => log.unwrap_or(Vec::new(rt.alloc())),
         Err(cause) => return Err(cause.of_log()),
     };
-    // A rollback journal, which only SQLite can play back: one that is empty, or begins with a zero,
+    // A rollback journal can only be played back by SQLite. One that is empty or begins with a zero
     // has nothing to play back.
     if front_of(rt, journal_path.as_str())?[0] != 0 {
         return Err(Unopened::Unfit(Unfit::Journal));
@@ -68,7 +69,7 @@ fn read(rt: &HostRuntime, path: &str) -> Result<Contents, Unopened> {
     Ok(Contents { log, db })
 }
 
-/// The bytes of a file, if there is one.
+/// Returns the bytes of a file, if there is one.
 fn bytes_of(rt: &HostRuntime, path: &str) -> Result<Option<Vec<u8>>, Unopened> {
     let Some(mut file) = file_at(rt, path)? else {
         return Ok(None);
@@ -78,13 +79,13 @@ fn bytes_of(rt: &HostRuntime, path: &str) -> Result<Option<Vec<u8>>, Unopened> {
     Ok(Some(bytes))
 }
 
-/// When a file was last written: seconds, and nanoseconds.
+/// Returns when a file was last written: seconds and nanoseconds.
 fn written_at(rt: &HostRuntime, path: &str) -> Result<(i64, i64), Unopened> {
     let found = fs::metadata(rt, path)?;
     Ok((found.mtime(), found.mtime_nsec()))
 }
 
-/// Opens a database whose files lie in memory.
+/// Opens a database whose files are in memory.
 fn connect(alloc: Global, contents: Contents) -> Result<Connection<FileStore<BookFile>>, Unopened>
     ensures { IfOk result (λ c. HasCleanDisk (file_state c)
         → FindsIn (record { log = contents.log.items; db = contents.db.items }) (file_state c)) }
@@ -96,13 +97,13 @@ fn connect(alloc: Global, contents: Contents) -> Result<Connection<FileStore<Boo
     // No other process reads the log of a copy, so its salts need not differ from those of others.
     match Connection::open_files(alloc, files, Options::new(0)) {
         Ok(connection) => Ok(connection),
-        // A file in memory fails only for want of it.
+        // A file in memory fails only for want of memory.
         Err((Error::SqliteFailure(ErrorCode::SystemIoFailure), _)) => Err(Unopened::MEMORY),
         Err((error, _)) => Err(Unopened::Refused(error)),
     }
 }
 
-/// A file in memory that holds these bytes.
+/// Returns a file in memory that holds these bytes.
 fn file_of(alloc: Global, bytes: Vec<u8>) -> io::Result<Memory>
     ensures holds { IfOk result (λ file. memory_bytes file ≡ bytes.items) }
     ensures usable { IfOk result (λ file. IsTrue (memory_is_usable file)) }

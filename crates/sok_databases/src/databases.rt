@@ -15,26 +15,26 @@ use sqlite::{Connection, FileStore};
 /// How a database is opened.
 #[derive(Clone, Copy, PartialEq, Eq)]
 pub enum Access {
-    /// To be changed, and an empty one is made where none is there.
+    /// To be changed. If there is none, an empty one is made.
     Make,
-    /// To be changed. It is refused where none is there, and none is made.
+    /// To be changed. It is refused if there is none.
     Change,
-    /// The same, seldom: each change is copied into the database file at once.
+    /// Like `Change`, for changes that are rare: each is copied into the database file at once.
     Settle,
-    /// To be read, as it was last committed. It may be in use, and one that can't be written: nothing
-    /// is written to it or beside it. It is refused where none is there.
+    /// To be read, as it was last committed. It may be in use or read-only: nothing is written to
+    /// it or beside it. It is refused if there is none.
     Read,
 }
 
-/// Databases by their paths, as those in files of the machine.
+/// Databases by their paths. Those in files of the machine are one implementation.
 pub trait Databases {
     type Opened: Drop;
 
     // What is known of the databases, and which of them may be made or changed.
     ghost databases: { Self → KnownDatabases Self.Opened };
 
-    /// Opens the database at a path, or makes an empty one where none is there and one may be made.
-    /// Where it can't be opened, for another cause than memory, that is `Database`.
+    /// Opens the database at a path, or makes an empty one if there is none and `access` allows it.
+    /// Errors: `Memory`; `Database` if it can't be opened for another reason.
     fn database(&self, path: &str, access: Access) -> Result<Self::Opened, ToolFault>
         requires { MayOpen (databases self.now) access path.now }
         ensures opened { IfOk result ((databases self.now).opens_as access path.now) }
@@ -42,17 +42,19 @@ pub trait Databases {
         ensures refused { IfErr result
             (λ fault. (fault ≡ tool.Memory) ⊎ (fault ≡ tool.Book refusal.Database)) };
 
-    /// Whether the path of the database that was opened last to be changed still leads to its file, if
-    /// one was. Else the book that has the path now lacks what is done.
+    /// Returns whether the path of the database that was last opened to be changed still leads to
+    /// its file, or true if none was. If it does not, the book that has the path now lacks the
+    /// changes.
     fn stands(&self) -> bool
         ensures { MatchBool result (databases self.now).stood (databases self.now).moves };
 
-    /// Takes a connection back, when the work on the database at a path is done.
+    /// Takes a connection back when the work on the database at a path is done.
     fn close(&self, path: &str, connection: Self::Opened)
         ensures { (databases self.now).closes_as path.now connection };
 }
 
-/// Those of the machine, of which no contract knows what they hold. Why one can't be opened is noted.
+/// The databases of the machine. No contract knows what they hold. The reason why one can't be
+/// opened is noted.
 impl Databases for Watched<'_, HostRuntime> {
     type Opened = Connection<FileStore<BookFile>>;
 
@@ -79,13 +81,14 @@ impl Databases for Watched<'_, HostRuntime> {
     fn close(&self, path: &str, connection: Connection<FileStore<BookFile>>)
         ensures { ⊤ }
     {
-        // The log is copied into the database file. Where that fails, the next open reads the log. Of a
-        // copy both are in memory.
+        // Closing copies the log into the database file. If that fails, the next open reads the
+        // log. The files of a copy are both in memory.
         let cause = match connection.close() {
             Ok(()) => None,
             Err(error) => Some(Unopened::Refused(error).error()),
         };
-        // Where nothing else failed, it was the database, or it was not at fault and is not told.
+        // If nothing else was noted, a device fault is one of the database. Without a device fault
+        // the note is not reported.
         self.fail(path, cause);
     }
 }

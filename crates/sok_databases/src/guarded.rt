@@ -7,8 +7,8 @@ ghost use Rattle.std.specs.Io.KnownBytes.{WriteAppends};
 use crate::databases::Databases;
 use std::io::{self, ErrorKind, Write};
 
-/// An output that takes what is told of a book only while the path of its database leads to the file
-/// that was opened. Else the book that has the path by then would lack what is told.
+/// An output that writes only while the path of its database leads to the file that was opened.
+/// Otherwise the book that has the path by then would lack the changes that are reported.
 #[derive(Drop)]
 pub struct Guarded<'a, F, W> {
     databases: &'a F,

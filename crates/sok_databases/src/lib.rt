@@ -8,7 +8,7 @@
 //! | `databases` | databases by their paths |
 //! | `guarded` | the output of a command that changes a book |
 //! | `opening` | how a database in files of the machine is opened (private) |
-//! | `standing` | what stands at its path, and beside it (private) |
+//! | `standing` | which files are at its path and beside it (private) |
 #![tactic(auto)]
 
 pub mod book_file;

@@ -1,4 +1,4 @@
-//! The databases in files of the machine: what stands at a path, and how it is opened.
+//! Opening the databases in files of the machine, and why one can't be opened.
 
 ghost use Rattle.std.specs.Prelude.{◌≡◌, ◌⊎◌};
 ghost use Rattle.sok_book.specs.declared.fault.BookFault.TheVariants as refusal;
@@ -22,7 +22,7 @@ use std::io::{self, ErrorKind};
 use std::thread;
 use std::time::Duration;
 
-/// Why nothing that stands at a path, or beside it, is opened.
+/// Why a file at a path, or beside it, is not opened.
 #[derive(Clone, Copy)]
 pub(crate) enum Unfit {
     NoPath,
@@ -61,23 +61,23 @@ impl Unfit {
 pub(crate) enum Unopened {
     /// There is no file that can be read, and none may be made.
     Unread(io::Error),
-    /// What stands there is nothing that is opened.
+    /// What is at the path can't be opened as a database.
     Unfit(Unfit),
-    /// Its log can't be read.
+    /// The log can't be read.
     LogUnread(io::Error),
-    /// What has the name of its log is none of it.
+    /// What has the name of its log can't be used as the log.
     LogUnfit(Unfit),
-    /// It was refused.
+    /// The database was refused with this error.
     Refused(Error),
 }
 
 impl Unopened {
-    /// Want of memory.
+    /// Memory was refused.
     pub(crate) const MEMORY: Unopened = Unopened::Refused(Error::SqliteFailure(
         ErrorCode::OutOfMemory,
     ));
 
-    /// Another process has it open, or has changed it.
+    /// Another process has the database open, or has changed it.
     pub(crate) const BUSY: Unopened = Unopened::Refused(Error::SqliteFailure(
         ErrorCode::DatabaseBusy,
     ));
@@ -91,7 +91,7 @@ impl Unopened {
         }
     }
 
-    /// The same of a log in place of its database.
+    /// Returns the same reason, but about the log and not its database.
     pub(crate) fn of_log(self) -> Unopened {
         match self {
             Unopened::Unread(error) => Unopened::LogUnread(error),
@@ -100,7 +100,7 @@ impl Unopened {
         }
     }
 
-    /// The cause in words.
+    /// Returns the reason in words.
     pub(crate) fn error(self) -> io::Error {
         match self {
             Unopened::Unread(error) | Unopened::LogUnread(error) => error,
@@ -109,7 +109,7 @@ impl Unopened {
         }
     }
 
-    /// Notes the cause, by the path of the database or that of its log.
+    /// Notes the reason under the path of the database or that of its log.
     pub(crate) fn note<F>(self, watched: &Watched<'_, F>, path: &str) {
         match self {
             Unopened::LogUnread(_) | Unopened::LogUnfit(_) => {
@@ -149,9 +149,9 @@ impl From<OpenError> for Unopened {
     }
 }
 
-/// Opens the database at a path, or makes an empty one where none is there and one may be made. It is
-/// first read into memory, where that is seen to have a book, so that nothing is written to another
-/// program's database. One that is only read is this copy.
+/// Opens the database at a path, or makes an empty one if there is none and `access` allows it. It
+/// is first read into memory to see that it has a book, so that nothing is written to the database
+/// of another program. For `Access::Read`, this copy is returned.
 pub(crate) fn open(
     rt: &HostRuntime,
     path: &str,
@@ -173,7 +173,7 @@ pub(crate) fn open(
     }
 }
 
-/// Makes a database where there is none, or an empty file.
+/// Makes a database where there is no file or an empty one.
 fn make(rt: &HostRuntime, path: &str) -> Result<Connection<FileStore<BookFile>>, Unopened> {
     if has_log(rt, path)? {
         return Err(Unopened::LogUnfit(Unfit::LostDatabase));
@@ -181,7 +181,7 @@ fn make(rt: &HostRuntime, path: &str) -> Result<Connection<FileStore<BookFile>>,
     in_turn(rt, || connect(rt, path, Access::Make))
 }
 
-/// Opens a database that is there.
+/// Opens a database that exists.
 fn open_there(
     rt: &HostRuntime,
     path: &str,
@@ -204,10 +204,10 @@ fn open_there(
     in_turn(rt, || connect(rt, path, access))
 }
 
-/// How many pages the log of a database may have before it is copied into the database file. A page
-/// takes up to two waits for the disk, and a copy four. So many lines of offers lose a twentieth of
-/// their speed by it, and on a disk that answers within 8 ms what was done stands in the file within a
-/// second. A settling, which writes seldom, has each change copied at once.
+/// Returns how many pages the log of a database may have before it is copied into the database
+/// file. A page takes up to two waits for the disk, and a copy takes four. With 128 pages, lines of
+/// offers lose a twentieth of their speed, and on a disk that answers within 8 ms the changes are
+/// in the file within a second. `Settle` writes rarely, so each change is copied at once.
 fn pages_of_log(access: Access) -> usize {
     match access {
         Access::Settle => 1,
@@ -239,13 +239,13 @@ fn connect(
     }
 }
 
-/// How often a database is tried that another process is at work on.
+/// How often a database is tried that another process is using.
 const TRIES: u32 = 40;
 
-/// How long is waited behind such a try, in milliseconds.
+/// The pause after such a try, in milliseconds.
 const PAUSE: u64 = 50;
 
-/// What comes of a database. As long as it is busy it is tried again, for some two seconds.
+/// Returns the result of `attempt`. While the database is busy, tries again, for about two seconds.
 pub(crate) fn in_turn<T, F: Fn() -> Result<T, Unopened>>(
     rt: &HostRuntime,
     attempt: F,

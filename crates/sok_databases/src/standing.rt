@@ -1,25 +1,26 @@
-//! What stands at the path of a database, and beside it.
+//! Which files are at the path of a database and beside it.
 
 use crate::opening::{Unfit, Unopened};
 use std::fs::{self, File};
 use std::io::{self, ErrorKind, Read};
 use std::os::unix::fs::MetadataExt;
 
-/// What stands at a path.
+/// What is at a path.
 #[derive(Clone, Copy)]
 pub(crate) enum Found {
     /// No file that can be opened.
     Nothing(io::Error),
     /// A file in which there is no database yet.
     Empty,
-    /// What may be a database.
+    /// A file that may be a database.
     Database,
-    /// A file that begins as no database does. Opened as one it would keep an empty log beside it.
+    /// A file that does not begin like a database. Opening it as one would leave an empty log
+    /// beside it.
     Other,
 }
 
-/// What a database begins with, where its file is not empty. While one is made its first byte is 0,
-/// and so it stays where that was cut off: the next open makes it anew.
+/// The first bytes of a database, if its file is not empty. While it is being made, the first byte
+/// is 0. If that is cut off, it stays 0, and the next open makes the database anew.
 const FRONT: [u8; 16] = *b"SQLite format 3\0";
 
 pub(crate) fn found_at(rt: &HostRuntime, path: &str) -> Found {
@@ -36,13 +37,13 @@ pub(crate) fn found_at(rt: &HostRuntime, path: &str) -> Found {
     }
 }
 
-/// Whether there is a link at a path that leads to nothing.
+/// Returns whether there is a link at a path that leads to nothing.
 pub(crate) fn is_dangling(rt: &HostRuntime, path: &str) -> bool {
     fs::symlink_metadata(rt, path).is_ok() && fs::metadata(rt, path).is_err()
 }
 
-/// A file, if there is one. Another thing than a file of one name is refused, as where a database is
-/// opened.
+/// Opens a file, if there is one. Anything but a regular file with a single name is refused, as
+/// when a database is opened.
 pub(crate) fn file_at(rt: &HostRuntime, path: &str) -> Result<Option<File>, Unopened> {
     match fs::symlink_metadata(rt, path) {
         Ok(found) if found.is_dir() => Err(Unopened::Unfit(Unfit::Folder)),
@@ -54,7 +55,8 @@ pub(crate) fn file_at(rt: &HostRuntime, path: &str) -> Result<Option<File>, Unop
     }
 }
 
-/// The first bytes of a file, of a log the header: zeros where it ends before, or there is none.
+/// Returns the first 32 bytes of a file, which are the header of a log. Bytes that are missing are
+/// zeros.
 pub(crate) fn front_of(rt: &HostRuntime, path: &str) -> Result<[u8; 32], Unopened> {
     let mut front = [0; 32];
     if let Some(mut file) = file_at(rt, path)? {
@@ -63,7 +65,8 @@ pub(crate) fn front_of(rt: &HostRuntime, path: &str) -> Result<[u8; 32], Unopene
     Ok(front)
 }
 
-/// The header of the log at a path, or zeros. What has its name and is no log is refused.
+/// Returns the header of the log at a path, or zeros if there is none. A file that is no log is
+/// refused.
 pub(crate) fn log_front(rt: &HostRuntime, path: &str) -> Result<[u8; 32], Unopened> {
     match front_of(rt, path) {
         Ok(front) if is_log(&front) => Ok(front),
@@ -72,7 +75,7 @@ pub(crate) fn log_front(rt: &HostRuntime, path: &str) -> Result<[u8; 32], Unopen
     }
 }
 
-/// Whether a log begins so. Its first byte is 0 while it is begun anew.
+/// Returns whether a log begins like this. Its first byte is 0 while it is begun anew.
 fn is_log(front: &[u8; 32]) -> bool {
     let [first, second, third, fourth, ..] = *front;
     (first == 0 && second == 0)
@@ -82,8 +85,8 @@ fn is_log(front: &[u8; 32]) -> bool {
             && fourth & 0xfe == 0x82)
 }
 
-/// Whether there is a log beside a database that has more than a header, for a path at which there may
-/// be no database.
+/// Returns whether there is a log with more than a header beside a database. The path may have no
+/// database.
 pub(crate) fn has_log(rt: &HostRuntime, path: &str) -> Result<bool, Unopened> {
     let log_path = format!(in rt.alloc(); "{path}-wal")?;
     let _front = log_front(rt, log_path.as_str())?;

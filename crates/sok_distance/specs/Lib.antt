@@ -1,6 +1,6 @@
--- words of public contracts
+-- definitions that public contracts use
 pub mod Distances
 pub mod Pushes
 pub mod Pushing
--- the proof's own: pushes in reverse as a graph
+-- definitions for the proofs alone: pushes in reverse as a graph
 pub mod Pulls

@@ -5,7 +5,7 @@ use Rattle.sok_rules.specs.declared.cell.Dir.{Dir}
 use Rattle.sok_rules.specs.Squares.{opposite}
 use Rattle.sok_board.specs.Area.{BoardView, beside, goals_of}
 
--- where a box without others goes, if the man has a square to push from
+-- the square to which a push in a direction moves a box without others, if the player has a square to push from
 abbrev pub lone_push : BoardView → Dir → ℕ → Option ℕ
 lone_push b d s = option_and_then (λ _. beside b s d) (beside b s (opposite d))
 
@@ -13,7 +13,7 @@ abbrev pub lone_pushes : BoardView → ℕ → List Dir → Option ℕ
 lone_pushes b s [] = Some s
 lone_pushes b s (d ∷ w) = option_and_then (λ t. lone_pushes b t w) (lone_push b d s)
 
--- where a box without others is pushed from, if it comes along a direction to a square: the push in reverse
+-- the push in reverse: the square from which a push in a direction brings a box, without others, to a square, if the player has a square to push from
 abbrev pub pull : BoardView → Dir → ℕ → Option ℕ
 pull b d t = option_and_then (λ s. option_and_then (λ _. Some s) (beside b s (opposite d))) (beside b t (opposite d))
 
@@ -28,7 +28,7 @@ IsDistance b g s d = Chain b s g d × ((n : ℕ) → Chain b s g n → d ≤ n)
 abbrev pub IsStuck : BoardView → ℕ → Type 0
 IsStuck b s = (g n : ℕ) → Contains (goals_of b) g → Chain b s g n → ⊥
 
--- what is told of a square and a goal: the distance, and None exactly where no chain leads there
+-- the distance from a square to a goal, or None if no chain leads there
 abbrev pub TellsDistance : BoardView → ℕ → ℕ → Option ℕ → Type 0
 TellsDistance b g s None = (n : ℕ) → Chain b s g n → ⊥
 TellsDistance b g s (Some d) = IsDistance b g s d

@@ -15,9 +15,10 @@ use sok_rules::level::Level;
 use std::alloc::Global;
 use std::marker::Model;
 
-/// The distance of each square of a board to each goal: the fewest pushes that bring a box from
-/// the square to the goal when no other box is in its way and the player can come to each side of
-/// it. Distances are seen as the board that they were made of, and the entries, goal by goal.
+/// The distance from each square of a board to each goal: the fewest pushes that bring a box from
+/// the square to the goal, if no other box is in its way and the player can reach each of its
+/// sides. Contracts see distances as the board of which they were made, and the entries, goal by
+/// goal.
 #[derive(Drop)]
 pub struct Distances {
     level: Level,
@@ -44,8 +45,8 @@ impl Model for Distances {
 }
 
 impl Distances {
-    /// Makes the distances of a board: a breadth first search from each goal, by pushes in reverse.
-    /// It refuses only for want of memory.
+    /// Finds the distances of a board by a breadth-first search from each goal, with pushes in
+    /// reverse. Fails only if memory is refused.
     pub fn new(alloc: Global, board: &Board) -> Result<Distances, Memory>
         ensures board { IfOk result (λ distances. distances.board ≡ board.now) }
         ensures accepted { IsAccepted board.now }
@@ -63,7 +64,7 @@ impl Distances {
         })
     }
 
-    /// How many goals the board has.
+    /// Returns the number of goals of the board.
     pub fn goals(&self) -> usize
         ensures count { result ≡ length (goals_of self.now.board) }
         ensures accepted { IsAccepted self.now.board }
@@ -71,8 +72,8 @@ impl Distances {
         self.goals
     }
 
-    /// The fewest pushes from a square to a goal, by the goal's index among the board's goals, when
-    /// no other box is in the way and the player can come to each side. None where none lead there.
+    /// Returns the distance from a square to a goal, which is given by its index among the board's
+    /// goals. `None` if no pushes bring a box there.
     pub fn dist(&self, goal: usize, square: Sq) -> Option<u16>
         requires goal { goal < length (goals_of self.now.board) }
         requires square { square < length self.now.board.area }
@@ -83,7 +84,7 @@ impl Distances {
         self.entries[goal * self.squares.len() + square as usize]
     }
 
-    /// Whether a box on a square reaches no goal, even with no other box in its way.
+    /// Returns whether a box on a square reaches no goal, even with no other box in its way.
     pub fn stuck(&self, square: Sq) -> bool
         requires { square < length self.now.board.area }
         ensures { IsTrue result ↔ IsStuck self.now.board square }
@@ -92,7 +93,7 @@ impl Distances {
     }
 }
 
-/// Where the squares of a board lie.
+/// Returns where the squares of a board lie.
 fn spots(alloc: Global, board: &Board) -> Result<Vec<Spot>, Memory>
     ensures { IfOk result (λ spots. spots.items ≡ board.now.area) }
 {
@@ -103,7 +104,7 @@ fn spots(alloc: Global, board: &Board) -> Result<Vec<Spot>, Memory>
     Ok(spots)
 }
 
-/// The distances from each goal in turn.
+/// Finds the distances to each goal in turn.
 fn entries(alloc: Global, board: &Board) -> Result<Vec<Option<u16>>, Memory>
     ensures { IfOk result (λ entries. IsFilled (length (goals_of board.now))
         (record { board = board.now; entries = entries.items })) }
@@ -117,7 +118,7 @@ fn entries(alloc: Global, board: &Board) -> Result<Vec<Option<u16>>, Memory>
     Ok(entries)
 }
 
-/// For each square whether a box on it reaches no goal.
+/// Returns for each square whether a box on it reaches no goal.
 fn list_stuck(alloc: Global, board: &Board, entries: &[Option<u16>]) -> Result<Vec<bool>, Memory>
     requires { IsFilled (length (goals_of board.now))
         (record { board = board.now; entries = entries.now }) }
@@ -130,7 +131,7 @@ fn list_stuck(alloc: Global, board: &Board, entries: &[Option<u16>]) -> Result<V
     Ok(list)
 }
 
-/// Whether no goal has a distance from a square.
+/// Returns whether a square has no distance to any goal.
 fn is_stuck(board: &Board, entries: &[Option<u16>], square: Sq) -> bool
     requires filled { IsFilled (length (goals_of board.now))
         (record { board = board.now; entries = entries.now }) }

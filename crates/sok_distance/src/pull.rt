@@ -1,4 +1,4 @@
-//! Pushes in reverse as the ways of a search from a goal.
+//! Pushes in reverse as the graph of a search from a goal.
 
 ghost use Rattle.std.specs.Prelude.{◌≡◌, ◌<◌, IfSome, length};
 ghost use Rattle.sok_distance.specs.Pulls.{pulls};
@@ -9,8 +9,8 @@ use sok_board::board::Board;
 use sok_board::search::Ways;
 use sok_rules::cell::Dir;
 
-/// The squares of a board; a letter leads from one to the square from which a push of that letter
-/// brings a box there.
+/// The squares of a board as nodes. A letter leads from a square to the one from which a push in
+/// the letter's direction brings a box there.
 #[derive(Drop)]
 pub(crate) struct Pulls<'a> {
     pub(crate) board: &'a Board,
@@ -34,8 +34,8 @@ impl Ways for Pulls<'_> {
     }
 }
 
-/// The square from which a box without others is pushed in a direction to a square, if there is
-/// one with a square behind it for the player.
+/// Returns the square from which a push in a direction brings a box, without others, to `square`.
+/// `None` if there is no such square, or none behind it for the player.
 fn pushed_from(board: &Board, square: Sq, dir: Dir) -> Option<Sq>
     requires { square < length board.now.area }
     ensures pull { result ≡ pull board.now dir square }

@@ -1,4 +1,4 @@
--- How a fault is told: the word `fault`, its number, its name and its arguments, each after one space.
+-- How a fault is printed: the word `fault`, its number, its name and its arguments, each after one space.
 use Rattle.std.specs.Prelude.{ℕ, List, ◌++◌, codes}
 use Rattle.std.specs.Fmt.{decimal}
 use Rattle.sok_rules.specs.Faults.{level_fault_number, level_fault_words, play_fault_number, play_fault_words}

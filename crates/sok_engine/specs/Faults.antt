@@ -1,4 +1,4 @@
--- The numbers and exit statuses of faults, and what a lower layer's fault becomes: want of memory is the program's own.
+-- The numbers and exit statuses of faults, and how faults of lower layers are passed on: their `Memory` becomes the program's own.
 use Rattle.std.specs.Prelude.{ℕ, if◌then◌else◌, ◌==◌, ◌||◌, ◌&&◌, nat_le}
 use Rattle.sok_rules.specs.declared.fault.LevelFault.{LevelFault}
 use Rattle.sok_rules.specs.declared.fault.LevelFault.TheVariants as level
@@ -32,7 +32,7 @@ tool_fault_number tool.ReadFailed = 50
 tool_fault_number tool.WriteFailed = 51
 tool_fault_number tool.TooMuch = 52
 
--- 1 where letters do not solve or a certificate is refused, 5 where a device or the database is at fault, 6 for memory, and 3 where the input is
+-- 1 if letters do not solve or a certificate is refused, 5 if a device or the database is at fault, 6 for memory, and 3 if the input is at fault
 abbrev pub status_of : ℕ → ℕ
 status_of n =
     if n == 13 || (nat_le 20 n && nat_le n 28) then 1

@@ -1,4 +1,4 @@
-//! What is answered, and writing it.
+//! An answer, and writing it.
 
 ghost use Rattle.std.specs.Prelude.{◌≡◌};
 ghost use Rattle.sok_engine.specs.Written.{WritesOne};
@@ -24,7 +24,7 @@ impl Model for Answer {
 }
 
 impl Answer {
-    /// The text may hold any bytes.
+    /// Returns an answer. The text may hold any bytes.
     pub fn new(text: Vec<u8>, status: u8) -> Answer
         ensures text { result.text ≡ text.items }
         ensures status { result.status ≡ status }
@@ -32,8 +32,10 @@ impl Answer {
         Answer { text, status }
     }
 
-    /// Writes the text, and gives the status. A write that fails is `WriteFailed` at once, after a
-    /// front of the text.
+    /// Writes the text and returns the status.
+    ///
+    /// Errors: `WriteFailed` as soon as a write fails; by then a first part of the text may be
+    /// written.
     pub fn write<W: Write>(&self, out: &mut W) -> Result<u8, ToolFault>
         ensures { WritesOne self.now (W.contents out.old) (W.contents out.new) result }
     {

@@ -16,18 +16,18 @@ use std::alloc::{AllocError, AllocFailed};
 use std::fmt;
 use thiserror::Error;
 
-/// Why the program ends without an answer: the refusal of a layer below, or one of its own. Want of
-/// memory is always `Memory`, whichever layer it came from. A fault is displayed as `fault`, its
-/// number, its name and its arguments, each after one space.
+/// Why the program ends without an answer: a fault of a layer below, or one of its own. If memory
+/// runs out, it is always `Memory`, whichever layer reports it. A fault is displayed as `fault`,
+/// its number, its name and its arguments, each after one space.
 #[derive(Clone, Copy, Debug, PartialEq, Eq, Error)]
 pub enum ToolFault {
-    /// The collection has no level of this number, or its rows are no level.
+    /// The collection has no level with this number, or its rows are no level.
     Level(LevelFault),
     /// No board can be made of the level.
     Board(BoardFault),
     /// The text is no list of letters.
     Lurd(LurdFault),
-    /// The letters cannot be played.
+    /// The letters can't be played.
     Play(PlayFault),
     /// The command on a book is refused, or the book is not opened.
     Book(BookFault),
@@ -44,7 +44,7 @@ pub enum ToolFault {
 }
 
 impl ToolFault {
-    /// The number by which the fault is printed.
+    /// Returns the number by which the fault is printed.
     pub fn number(&self) -> u8
         ensures { result ≡ tool_fault_number self.now }
     {
@@ -62,8 +62,8 @@ impl ToolFault {
         }
     }
 
-    /// The exit status: 1 where letters do not solve or a certificate is refused, 3 where the input
-    /// is at fault, 5 where a device or the database is, and 6 for memory.
+    /// Returns the exit status: 1 if letters do not solve a level or a certificate is refused, 3 if
+    /// the input is at fault, 5 if a device or the database is, and 6 for memory.
     pub fn status(&self) -> u8
         ensures { result ≡ tool_fault_status self.now }
     {
@@ -71,7 +71,7 @@ impl ToolFault {
     }
 }
 
-/// The exit status of the faults with a number.
+/// Returns the exit status of the faults with this number.
 fn status_of(number: u8) -> u8
     ensures { result ≡ status_of number }
 {

@@ -9,10 +9,10 @@ use std::alloc::{AllocError, Global};
 use std::io::{self, Read};
 use thiserror::Error;
 
-/// The most bytes of an input other than a certificate.
+/// The greatest length of an input other than a certificate, in bytes.
 pub const INPUT_LIMIT: usize = 16_777_216;
 
-/// The most bytes of a certificate.
+/// The greatest length of a certificate, in bytes.
 pub const CERT_LIMIT: usize = 268_435_456;
 
 /// Why an input is not read.
@@ -53,9 +53,10 @@ impl From<io::Error> for InputFault {
     }
 }
 
-/// Reads to the end of an input other than a certificate. A read that fails, for any cause, is
-/// `ReadFailed` at once. A byte past the limit is `TooMuch`, after which some more bytes may have
-/// been read.
+/// Reads an input, other than a certificate, to its end.
+///
+/// Errors: `ReadFailed` as soon as a read fails, for any cause; `TooMuch` if there is a byte past
+/// the limit, after which some more bytes may have been read; `Memory`.
 pub fn read_input<R: Read>(alloc: Global, reader: &mut R) -> Result<Vec<u8>, InputFault>
     ensures all { IfOk result (λ v. IfSome (R.remaining reader.old) (λ input. v.items ≡ input)) }
     ensures within { IfOk result (λ v. length v.items ≤ input_limit) }
@@ -65,7 +66,7 @@ pub fn read_input<R: Read>(alloc: Global, reader: &mut R) -> Result<Vec<u8>, Inp
     read_at_most(alloc, reader, INPUT_LIMIT)
 }
 
-/// Reads to the end of a certificate, in the same way.
+/// Reads a certificate to its end, in the same way.
 pub fn read_certificate<R: Read>(alloc: Global, reader: &mut R) -> Result<Vec<u8>, InputFault>
     ensures all { IfOk result (λ v. IfSome (R.remaining reader.old) (λ input. v.items ≡ input)) }
     ensures within { IfOk result (λ v. length v.items ≤ cert_limit) }
@@ -75,7 +76,7 @@ pub fn read_certificate<R: Read>(alloc: Global, reader: &mut R) -> Result<Vec<u8
     read_at_most(alloc, reader, CERT_LIMIT)
 }
 
-/// Reads to the end of an input, unless it has more bytes than the limit.
+/// Reads an input to its end, unless it has more bytes than the limit.
 fn read_at_most<R: Read>(alloc: Global, reader: &mut R, limit: usize) -> Result<Vec<u8>, InputFault>
     ensures all { IfOk result (λ v. IfSome (R.remaining reader.old) (λ input. v.items ≡ input)) }
     ensures within { IfOk result (λ v. length v.items ≤ limit) }

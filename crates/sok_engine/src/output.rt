@@ -12,7 +12,7 @@ use thiserror::Error;
 #[error("WriteFailed")]
 pub struct WriteFailed;
 
-/// Writes all of the bytes. Where a write fails, a front of them is written.
+/// Writes all bytes. If a write fails, only a first part of them is written.
 pub fn write_whole<W: Write>(writer: &mut W, bytes: &[u8]) -> Result<(), WriteFailed>
     ensures ok { OnOk result (Appends (W.contents writer.old) (W.contents writer.new) bytes.now) }
     ensures err { OnErr result

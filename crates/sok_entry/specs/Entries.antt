@@ -1,4 +1,4 @@
--- The entry that a letter and numbers make, and the first line of a pattern.
+-- The entry, or the first line of a pattern, that a letter and numbers spell.
 use Rattle.std.specs.Prelude.{ℕ, ◌+◌, List, [], ◌∷◌, Option, Some, None, ◌==◌, codes, nat_lt, if◌then◌else◌, drop, length, option_and_then, option_map, slice_index, take}
 use Rattle.sok_entry.specs.declared.entry.Entry.{Entry}
 use Rattle.sok_entry.specs.declared.entry.Reason.{Reason}
@@ -6,20 +6,20 @@ use Rattle.sok_entry.specs.declared.entry.Reason.TheVariants.{Expanded, Spent, B
 use Rattle.sok_entry.specs.declared.head.Head.{Head}
 use Rattle.sok_entry.specs.Text.{code}
 
--- the members behind their count
+-- a list of members, after their count
 unfoldable pub members_of : List ℕ → Option (List ℕ)
 members_of [] = None
 members_of (count ∷ members) = if length members == count then Some members else None
 
--- a reason with no numbers
+-- a reason without numbers
 abbrev pub bare : List ℕ → Reason → Option Reason
 bare more reason = if length more == 0 then Some reason else None
 
--- prices of this many boxes, and of goals
+-- the prices of this many boxes, then those of the goals
 abbrev pub bound_of : ℕ → List ℕ → Option Reason
 bound_of boxes more = if nat_lt (length more) boxes then None else Some (Bound (take boxes more) (drop boxes more))
 
--- by the letters x, s, b, c and f, at so many boxes
+-- the reason by its letter (x, s, b, c or f), for an entry with this many boxes
 unfoldable pub reason_of : ℕ → ℕ → List ℕ → Option Reason
 reason_of letter boxes more =
     if letter == code (codes "x") then bare more Expanded
@@ -29,20 +29,20 @@ reason_of letter boxes more =
     else if letter == code (codes "f") then option_map Frozen (members_of more)
     else None
 
--- the numbers of a position, and what stands behind them
+-- the numbers of a position, and the numbers that follow them
 pub record Front : Type 0 where
   pub depth : ℕ
   pub player : ℕ
   pub boxes : List ℕ
   pub more : List ℕ
 
--- depth, player, and boxes behind their count
+-- depth, player, the number of boxes, and the boxes
 unfoldable pub front_of : List ℕ → Option Front
 front_of (depth ∷ player ∷ boxes ∷ more) =
     if nat_lt (length more) boxes then None else Some (record { depth = depth; player = player; boxes = take boxes more; more = drop boxes more })
 front_of _ = None
 
--- a position before the numbers of its reason
+-- the entry with this position, whose reason follows
 abbrev pub entry_behind : ℕ → Front → Option Entry
 entry_behind letter front =
     option_map (λ reason. record { depth = front.depth; player = front.player; boxes = front.boxes; reason = reason })
@@ -51,12 +51,12 @@ entry_behind letter front =
 unfoldable pub entry_of : ℕ → List ℕ → Option Entry
 entry_of letter numbers = option_and_then (entry_behind letter) (front_of numbers)
 
--- the members behind their count, and how many inner positions there are
+-- the members, after their count, and the number of inner positions
 unfoldable pub counts_of : List ℕ → Option (List ℕ × ℕ)
 counts_of [] = None
 counts_of (count ∷ more) = if length more == count + 1 then Some (take count more, slice_index more count) else None
 
--- a position before the members, and how many inner positions there are
+-- the first line of a pattern with this position, whose members and number of inner positions follow
 abbrev pub head_behind : Front → Option Head
 head_behind front =
     option_map (λ (counts : List ℕ × ℕ). record { depth = front.depth; player = front.player; boxes = front.boxes; members = counts.0; count = counts.1 })

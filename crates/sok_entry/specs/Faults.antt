@@ -1,4 +1,4 @@
--- How faults are printed: their numbers, and their names with their arguments, each after one space.
+-- How faults are printed: their numbers, and their names with arguments, each after one space.
 use Rattle.std.specs.Prelude.{ℕ, List, ◌++◌, codes}
 use Rattle.std.specs.Fmt.{decimal}
 use Rattle.sok_rules.specs.Faults.{dir_word}

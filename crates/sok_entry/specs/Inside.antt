@@ -1,4 +1,5 @@
--- The lines of inner positions, told without entries, since an entry may have a list that keeps them. That they are those of entries alike is proved.
+-- The lines of inner positions, defined without entries, since an entry may have a list that keeps them. Proofs show that they are the lines of entries of the
+-- same form.
 use Rattle.std.specs.Prelude.{ℕ, List, [], ◌∷◌, ◌++◌, codes, decimal, length, map, slice_index}
 use Rattle.std.specs.List.{flat_map}
 use Rattle.sok_entry.specs.declared.entry.Inner.{Inner}
@@ -13,7 +14,7 @@ code text = slice_index text 0
 abbrev pub line_feed : ℕ
 line_feed = 10
 
--- a line with LF behind it
+-- a line with LF at its end
 abbrev pub ended : List ℕ → List ℕ
 ended line = line ++ line_feed ∷ []
 

@@ -4,14 +4,14 @@ use Rattle.sok_entry.specs.declared.entry.Inner.{Inner}
 use Rattle.sok_entry.specs.declared.known.KnownList.{KnownList}
 use Rattle.sok_entry.specs.Text.{inner_text, FitsInner}
 
--- the most lists, and the most bytes of their lines together
+-- the limits: the number of lists, and the bytes of all their lines together
 abbrev pub list_limit : ℕ
 list_limit = 256
 
 abbrev pub byte_limit : ℕ
 byte_limit = 4194304
 
--- a list that has lines, and these are kept
+-- the list has lines, and they are kept
 pub record IsKept (known : KnownList) : Type 0 where
   pub fits : All FitsInner known.inner
   pub lines : known.lines.items ≡ inner_text known.inner
@@ -19,29 +19,29 @@ pub record IsKept (known : KnownList) : Type 0 where
 abbrev pub positions_of : List KnownList → List (List Inner)
 positions_of lists = map (λ (known : KnownList). known.inner) lists
 
--- the bytes of all lines
+-- the number of bytes of all lines
 abbrev pub byte_count : List (List Inner) → ℕ
 byte_count lists = sum_by (λ inner. length (inner_text inner)) lists
 
--- each list is kept, and there is room for so many more bytes
+-- each list is kept with its lines, and there is room for this many more bytes
 pub record AreKept (lists : List KnownList) (left : ℕ) : Type 0 where
   pub each : All IsKept lists
   pub room : byte_count (positions_of lists) + left ≡ byte_limit
 
--- the list of so many positions is known, its lines stand at the front of the text, and this behind them
+-- a known list of `count` positions: the text begins with its lines, and this follows them
 pub record IsAtFront (lists : List (List Inner)) (text : List ℕ) (count : ℕ) (inner : List Inner) (rest : List ℕ) : Type 0 where
   pub known : Contains lists inner
   pub many : length inner ≡ count
   pub fits : All FitsInner inner
   pub begins : text ≡ inner_text inner ++ rest
 
--- a list that has lines, for which there is room
+-- the list has lines, and there is room for it
 pub record MayBeKept (lists : List (List Inner)) (inner : List Inner) : Type 0 where
   pub fits : All FitsInner inner
   pub few : length lists < list_limit
   pub room : byte_count lists + length (inner_text inner) ≤ byte_limit
 
--- once a list came, it is known, unless it may not be kept
+-- a list that comes is known afterwards, unless it may not be kept
 pub data Keeps (old : List (List Inner)) (inner : List Inner) (new : List (List Inner)) : Type 0 where
   known : Contains old inner → new ≡ old → Keeps old inner new
   full : (MayBeKept old inner → ⊥) → new ≡ old → Keeps old inner new

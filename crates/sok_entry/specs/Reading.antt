@@ -1,4 +1,4 @@
--- Which fault a text has: the first, line by line.
+-- The fault of a text: the first, line by line.
 use Rattle.std.specs.Prelude.{ℕ, ◌≡◌, ◌≢◌, ◌<◌, ◌≤◌, ◌+◌, ◌-◌, ◌==◌, List, [], ◌∷◌, ◌++◌, Option, MatchOption, Bool, All, codes, count_by, decimal, length, map}
 use Rattle.std.specs.Prelude.{false}
 use Rattle.std.specs.List.{flat_map, slice_split}
@@ -16,14 +16,14 @@ use Rattle.sok_entry.specs.declared.version.Version.TheVariants.{One, Two}
 use Rattle.sok_entry.specs.Text.{code, line_feed, header, claim_line, entry_line, entry_lines, head_line, inner_line, last_line, is_pattern, numbers_of_head}
 use Rattle.sok_entry.specs.Text.{IsSmall, FitsClaim, FitsEntry, FitsInner, FitsVersion}
 
--- a value with this property, or none where nothing has it
+-- a value with this property, or None if no value has it
 abbrev pub Tells : {T : Type 0} → (T → Type 0) → Option T → Type 0
 Tells {T} P found = MatchOption found ((x : T) → P x → ⊥) P
 
 abbrev pub is_space : ℕ → Bool
 is_space c = c == code (codes " ")
 
--- the parts of a text between its spaces are numbers
+-- the words of the text, which spaces separate, are these numbers
 abbrev pub AreWords : List ℕ → List ℕ → Type 0
 AreWords text ns = All IsSmall ns × (slice_split is_space text ≡ map decimal ns)
 
@@ -42,21 +42,21 @@ IsHeadLine line h = FitsHead h × (line ≡ head_line h)
 abbrev pub IsInnerLine : List ℕ → Inner → Type 0
 IsInnerLine line i = FitsInner i × (line ≡ inner_line i)
 
--- a line begins an entry of this version
+-- the line begins an entry of this version
 abbrev pub Begins : Version → List ℕ → Opening → Type 0
 Begins version line (Whole e) = IsEntryLine line e
 Begins One line (Begun h) = ⊥
 Begins Two line (Begun h) = IsHeadLine line h
 
--- a line of a claim
+-- the line of a claim
 abbrev pub IsClaimLine : List ℕ → Claim → Type 0
 IsClaimLine line claim = FitsClaim claim × (line ≡ claim_line claim)
 
--- how many lines have their end, which is LF or CR LF
+-- the number of lines that have an end, which is LF or CR LF
 abbrev pub ended_lines : List ℕ → ℕ
 ended_lines text = count_by (λ byte. byte == line_feed) text
 
--- the first line of a pattern and some of its inner positions, to which more belong
+-- the first line of a pattern and some of its inner positions; more have to follow
 pub record IsUnfinished (head : Head) (inner : List Inner) : Type 0 where
   pub head_fits : FitsHead head
   pub inner_fits : All FitsInner inner
@@ -65,35 +65,35 @@ pub record IsUnfinished (head : Head) (inner : List Inner) : Type 0 where
 abbrev pub unfinished_lines : Head → List Inner → List (List ℕ)
 unfinished_lines head inner = head_line head ∷ map inner_line inner
 
--- what is wrong where an inner position belongs, where so many of all the lines have their end and so many stand before: the first two lines don't count
+-- What is wrong where an inner position has to follow. `ended` lines have an end and `before` lines come before, both without the first two lines.
 pub data IsWrongInside (ended before : ℕ) (rest : List (List ℕ)) (fault : CertFault) : Type 0 where
   -- no line is left
   missing_inside : rest ≡ [] → fault ≡ Truncated → IsWrongInside ended before rest fault
   -- the last line has no end
   cut_inside : (line : List ℕ) → rest ≡ line ∷ [] → ended ≤ before → fault ≡ Truncated → IsWrongInside ended before rest fault
-  -- a line that has its end is no inner position
+  -- a line that has an end is no inner position
   other_inside : (line : List ℕ) (more : List (List ℕ)) → rest ≡ line ∷ more → ((i : Inner) → IsInnerLine line i → ⊥) → before < ended
       → fault ≡ Line (3 + before)
       → IsWrongInside ended before rest fault
 
--- what is wrong where an entry or `end` belongs, with so many lines of entries before, and so many that have their end: both begin at line 3
+-- What is wrong where an entry or `end` has to follow. `ended` lines have an end and `before` lines come before, both counted from line 3.
 pub data IsWrong (version : Version) (ended before : ℕ) (rest : List (List ℕ)) (fault : CertFault) : Type 0 where
   -- no line is left
   missing : rest ≡ [] → fault ≡ Truncated → IsWrong version ended before rest fault
   -- the last line is not `end`, and has no end
   cut : (line : List ℕ) → rest ≡ line ∷ [] → line ≢ last_line → ended ≤ before → fault ≡ Truncated → IsWrong version ended before rest fault
-  -- a line that has its end begins no entry, and is not `end`
+  -- a line that has an end begins no entry, and is not `end`
   other : (line : List ℕ) (more : List (List ℕ)) → rest ≡ line ∷ more → line ≢ last_line → ((o : Opening) → Begins version line o → ⊥) → before < ended
       → fault ≡ Line (3 + before)
       → IsWrong version ended before rest fault
-  -- a line stands behind `end`
+  -- a line follows `end`
   behind : (line : List ℕ) (more : List (List ℕ)) → rest ≡ last_line ∷ line ∷ more → fault ≡ Line (4 + before) → IsWrong version ended before rest fault
-  -- a pattern is begun, and something is wrong inside
+  -- a pattern has begun, and something is wrong inside it
   inside : (head : Head) (inner : List Inner) (left : List (List ℕ)) → version ≡ Two → IsUnfinished head inner → rest ≡ unfinished_lines head inner ++ left
       → IsWrongInside ended (before + length (unfinished_lines head inner)) left fault
       → IsWrong version ended before rest fault
 
--- lines of which so many have their end begin with entries, and behind these something is wrong
+-- the lines, of which `ended` have an end, begin with entries, and then something is wrong
 pub record StopsAt (version : Version) (ended : ℕ) (ls : List (List ℕ)) (fault : CertFault) : Type 0 where
   pub entries : List Entry
   pub rest : List (List ℕ)
@@ -102,11 +102,11 @@ pub record StopsAt (version : Version) (ended : ℕ) (ls : List (List ℕ)) (fau
   pub has_lines : ls ≡ flat_map entry_lines entries ++ rest
   pub wrong : IsWrong version ended (length (flat_map entry_lines entries)) rest fault
 
--- the first line is no header, or the second is no claim, or one is not there
+-- the first line is no header, or the second is no claim, or one of them is missing
 abbrev pub LacksHeader : List ℕ → Type 0
 LacksHeader text = (version : Version) (claim : Claim) (ls : List (List ℕ)) → FitsClaim claim → lines text ≡ header version ∷ claim_line claim ∷ ls → ⊥
 
--- the text is no certificate, for this reason, which is the first
+-- the text is no certificate, and this is its first fault
 pub data GoesWrong (text : List ℕ) (fault : CertFault) : Type 0 where
   at_header : LacksHeader text → fault ≡ Header → GoesWrong text fault
   behind_header : (version : Version) (claim : Claim) (ls : List (List ℕ)) → FitsClaim claim → lines text ≡ header version ∷ claim_line claim ∷ ls

@@ -1,4 +1,4 @@
--- The text of a certificate: which lines it has.
+-- The text of a certificate: its lines.
 use Rattle.std.specs.Prelude.{ℕ, ◌≡◌, ◌≤◌, List, [], ◌∷◌, ◌++◌, All, Bool, true, false, codes, decimal, if◌then◌else◌, length, map}
 use Rattle.std.specs.List.{flat_map, list_any}
 use Rattle.std.specs.Str.Lines.{lines}
@@ -35,7 +35,7 @@ letter_of (Crowd members) = code (codes "c")
 letter_of (Frozen members) = code (codes "f")
 letter_of (Pattern members inner) = code (codes "p")
 
--- prices as they stand, members behind their count, and how many inner positions a pattern has
+-- prices without a count; members after their count; for a pattern also the number of inner positions
 abbrev pub numbers_of_reason : Reason → List ℕ
 numbers_of_reason Expanded = []
 numbers_of_reason Spent = []
@@ -44,7 +44,7 @@ numbers_of_reason (Crowd members) = length members ∷ members
 numbers_of_reason (Frozen members) = length members ∷ members
 numbers_of_reason (Pattern members inner) = length members ∷ members ++ length inner ∷ []
 
--- depth, player, how many boxes, and the boxes
+-- depth, player, the number of boxes, and the boxes
 abbrev pub numbers_of_position : Entry → List ℕ
 numbers_of_position e = e.depth ∷ e.player ∷ length e.boxes ∷ e.boxes
 
@@ -52,7 +52,7 @@ numbers_of_position e = e.depth ∷ e.player ∷ length e.boxes ∷ e.boxes
 abbrev pub numbers_of : Entry → List ℕ
 numbers_of e = numbers_of_position e ++ numbers_of_reason e.reason
 
--- the first line of an entry, and the only one unless it is a pattern
+-- the first line of an entry; it is the only one, unless the entry is a pattern
 unfoldable pub entry_line : Entry → List ℕ
 entry_line e = letter_of e.reason ∷ spaced (numbers_of e)
 
@@ -77,7 +77,7 @@ abbrev pub inner_of : Reason → List Inner
 inner_of (Pattern members inner) = inner
 inner_of _ = []
 
--- the lines of an entry: behind its first line those of its inner positions
+-- the lines of an entry: its first line, then those of its inner positions
 abbrev pub entry_lines : Entry → List (List ℕ)
 entry_lines e = entry_line e ∷ map inner_line (inner_of e.reason)
 
@@ -92,20 +92,20 @@ numbers_of_head h = h.depth ∷ h.player ∷ length h.boxes ∷ h.boxes ++ (leng
 unfoldable pub head_line : Head → List ℕ
 head_line h = code (codes "p") ∷ spaced (numbers_of_head h)
 
--- the pattern with this first line, where there are as many inner positions as it counts
+-- the pattern with this first line and these inner positions, if their number is right
 abbrev pub entry_with : Head → List Inner → Entry
 entry_with h inner = entry_from h.depth h.player h.boxes (Pattern h.members inner)
 
--- a text that has grown at its end, or not at all
+-- something, or nothing, was appended to the text
 pub record Grows (old new : List ℕ) : Type 0 where
   pub more : List ℕ
   pub is : new ≡ old ++ more
 
--- the lines of inner positions, with LF behind each
+-- the lines of inner positions, each with LF at its end
 abbrev pub inner_text : List Inner → List ℕ
 inner_text inner = flat_map ended (map inner_line inner)
 
--- the lines of an entry, with LF behind each
+-- the lines of an entry, each with LF at its end
 abbrev pub entry_text : Entry → List ℕ
 entry_text e = flat_map ended (entry_lines e)
 
@@ -113,11 +113,11 @@ abbrev pub is_pattern : Reason → Bool
 is_pattern (Pattern members inner) = true
 is_pattern _ = false
 
--- the version that is written: version 1 exactly where no entry is a pattern
+-- the version that is written: 1 if no entry is a pattern, otherwise 2
 abbrev pub version_of : List Entry → Version
 version_of entries = if list_any (λ (e : Entry). is_pattern e.reason) entries then Two else One
 
--- the text of a certificate, with LF behind each line
+-- the text of a certificate, each line with LF at its end
 abbrev pub text_of : Claim → List Entry → List ℕ
 text_of claim entries = flat_map ended (lines_of (version_of entries) claim entries)
 
@@ -125,7 +125,7 @@ text_of claim entries = flat_map ended (lines_of (version_of entries) claim entr
 abbrev pub number_limit : ℕ
 number_limit = 1000000
 
--- what a number of a certificate can be
+-- a number that a certificate may have
 abbrev pub IsSmall : ℕ → Type 0
 IsSmall n = n ≤ number_limit
 
@@ -133,7 +133,7 @@ abbrev pub FitsClaim : Claim → Type 0
 FitsClaim (Pushes k) = IsSmall k
 FitsClaim Unsolvable = Unit {0}
 
--- there are as many prices of boxes as boxes
+-- a bound has one price for each box
 abbrev pub PricesEachBox : ℕ → Reason → Type 0
 PricesEachBox boxes (Bound u v) = length u ≡ boxes
 PricesEachBox boxes _ = Unit {0}
@@ -142,17 +142,17 @@ PricesEachBox boxes _ = Unit {0}
 abbrev pub FitsInner : Inner → Type 0
 FitsInner i = All IsSmall (numbers_of (entry_alike i))
 
--- the numbers of a reason are small enough, and it prices this many boxes, if it prices any
+-- the numbers of a reason are small enough, and a bound prices this many boxes
 abbrev pub FitsReason : Reason → ℕ → Type 0
 FitsReason reason boxes = PricesEachBox boxes reason × All IsSmall (numbers_of_reason reason) × All FitsInner (inner_of reason)
 
--- an entry that has lines: each number of them is small enough
+-- an entry that has lines: each of its numbers is small enough
 pub record FitsEntry (e : Entry) : Type 0 where
   pub small : All IsSmall (numbers_of e)
   pub priced : PricesEachBox (length e.boxes) e.reason
   pub inner : All FitsInner (inner_of e.reason)
 
--- in version 1 no entry is a pattern
+-- version 1 has no patterns
 abbrev pub FitsVersion : Version → Entry → Type 0
 FitsVersion One e = is_pattern e.reason ≡ false
 FitsVersion Two e = Unit {0}
@@ -162,7 +162,7 @@ pub record Fits (claim : Claim) (entries : List Entry) : Type 0 where
   pub claim_fits : FitsClaim claim
   pub entries_fit : All FitsEntry entries
 
--- the text has the lines of this certificate in one of the versions, with LF or CR LF between them; the last may have no end
+-- The text has the lines of this certificate in one of the versions. The lines end with LF or CR LF, and the last one may have no end.
 pub record SpellsCertificate (text : List ℕ) (claim : Claim) (entries : List Entry) : Type 0 where
   pub version : Version
   pub has_lines : lines text ≡ lines_of version claim entries

@@ -3,8 +3,8 @@
 /// What a certificate claims of its level.
 #[derive(Clone, Copy, Debug, PartialEq, Eq)]
 pub enum Claim {
-    /// No text of letters solves the level with fewer pushes than this.
+    /// No solution has fewer pushes than this.
     Pushes(u32),
-    /// No text of letters solves the level.
+    /// There is no solution.
     Unsolvable,
 }

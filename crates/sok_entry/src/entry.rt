@@ -1,4 +1,4 @@
-//! A certificate: its claim, and its positions, each with the reason why it may stand.
+//! A certificate: its claim, and its positions, each with a reason.
 
 ghost use Rattle.std.specs.Prelude.{◌≡◌, IfOk};
 
@@ -7,15 +7,15 @@ use crate::inners::Inners;
 use std::alloc::{AllocError, Global};
 use std::marker::Model;
 
-/// A claim, and positions with what shows that it holds from each of them.
+/// A claim, and positions that show it, each with a reason.
 #[derive(Drop)]
 pub struct Certificate {
     pub claim: Claim,
     pub entries: Vec<Entry>,
 }
 
-/// A position: the player and the boxes, by numbers of squares, with the pushes that were made
-/// before it. A well-formed entry has its boxes in rising order.
+/// A position of the level. Player and boxes are numbers of squares; `depth` is the number of
+/// pushes made before. A well-formed entry has its boxes in rising order.
 #[derive(Drop)]
 pub struct Entry {
     pub depth: u32,
@@ -24,28 +24,28 @@ pub struct Entry {
     pub reason: Reason,
 }
 
-/// Why a position may stand in a certificate.
+/// The reason why a position may be in a certificate.
 #[derive(Drop)]
 pub enum Reason {
     /// Every push leads to another entry.
     Expanded,
-    /// As many pushes as the claim says were made already.
+    /// At least as many pushes as claimed were made already.
     Spent,
-    /// Prices show how many more pushes there must be: `u` of the boxes and `v` of the goals, both
-    /// in rising order of squares.
+    /// Dual prices show how many more pushes are needed: `u` prices the boxes and `v` the goals,
+    /// both in rising order of squares.
     Bound { u: Numbers, v: Numbers },
-    /// Some boxes have too few goals within their reach. Members are indices, from 0, in the list
-    /// of the boxes.
+    /// Some boxes can reach too few goals. Members are indices of boxes in the entry's list, from
+    /// 0.
     Crowd { members: Numbers },
-    /// Some boxes block one another for ever. Members as in a crowd.
+    /// Some boxes block one another forever. Members as in `Crowd`.
     Frozen { members: Numbers },
-    /// Some boxes, taken alone, are never solved from where the player stands. Members as in a crowd,
-    /// and a list of positions of these boxes alone that is closed under pushes.
+    /// Some boxes, taken alone, can't be solved from where the player stands. Members as in
+    /// `Crowd`; `inner` is a list of positions of these boxes alone that is closed under pushes.
     Pattern { members: Numbers, inner: Inners },
 }
 
-/// A position of some boxes alone: the player and the boxes, by numbers of squares, with the pushes
-/// that were made before it. A well-formed one has its boxes in rising order.
+/// A position of some boxes alone. Player and boxes are numbers of squares; `depth` is the number
+/// of pushes made before. A well-formed one has its boxes in rising order.
 #[derive(Drop)]
 pub struct Inner {
     pub depth: u32,
@@ -54,19 +54,19 @@ pub struct Inner {
     pub reason: InnerReason,
 }
 
-/// Why a position of some boxes alone may stand in a pattern.
+/// The reason why a position of some boxes alone may be in a pattern.
 #[derive(Drop)]
 pub enum InnerReason {
     /// Every push of these boxes alone leads to another position of the pattern.
     Expanded,
-    /// Some of these boxes have too few goals within their reach. Members are indices, from 0, in
-    /// the list of the boxes of this position.
+    /// Some of these boxes can reach too few goals. Members are indices of boxes in the list of
+    /// this position, from 0.
     Crowd { members: Numbers },
-    /// Some of these boxes block one another for ever. Members as in a crowd.
+    /// Some of these boxes block one another forever. Members as in `Crowd`.
     Frozen { members: Numbers },
 }
 
-/// Numbers in order. They are seen as a list.
+/// A list of numbers. The contracts see it as a list.
 #[derive(Drop)]
 pub struct Numbers {
     items: Vec<u32>,
@@ -81,7 +81,7 @@ impl Model for Numbers {
 }
 
 impl Numbers {
-    /// A copy of a slice.
+    /// Copies a slice.
     pub fn copied(alloc: Global, numbers: &[u32]) -> Result<Numbers, AllocError>
         ensures { IfOk result (λ list. list ≡ numbers.now) }
     {
@@ -90,7 +90,7 @@ impl Numbers {
         })
     }
 
-    /// The same numbers as a slice of narrower ones.
+    /// Copies a slice of narrower numbers.
     pub fn widened(alloc: Global, numbers: &[u16]) -> Result<Numbers, AllocError>
         ensures { IfOk result (λ list. list ≡ numbers.now) }
     {
@@ -101,7 +101,7 @@ impl Numbers {
         Ok(Numbers { items })
     }
 
-    /// The numbers, with no copy made.
+    /// Returns the numbers without a copy.
     pub fn as_slice(&self) -> &[u32]
         ensures { result.now ≡ self.now }
     {

@@ -10,27 +10,27 @@ use std::alloc::{AllocError, AllocFailed};
 use std::fmt;
 use thiserror::Error;
 
-/// Why a text is no certificate, or why a certificate does not show what it claims. Lines are
-/// counted from 1, and entries from 0. It is displayed as its name and its arguments.
+/// Why a text is no certificate, or why a certificate does not show its claim. Lines are counted
+/// from 1 and entries from 0. A fault is displayed as its name and its arguments.
 #[derive(Clone, Copy, Debug, PartialEq, Eq, Error)]
 pub enum CertFault {
-    /// The first line or the second is missing, or has another form.
+    /// The first or second line is missing or has another form.
     Header,
-    /// This line is neither an entry nor `end`, or no inner position where one belongs, or stands
-    /// after `end`.
+    /// This line follows `end`, or is neither an entry nor `end`, or is no inner position although
+    /// one has to follow.
     Line(usize),
-    /// The text ends before a line `end`.
+    /// The text ends before the line `end`.
     Truncated,
     /// No entry of depth 0 is the start.
     Start,
-    /// This entry is the state of an earlier one.
+    /// An earlier entry has the same state as this one.
     Duplicate(usize),
     /// This entry is no position of the level.
     BadEntry(usize),
     /// This entry is expanded, with all boxes on goals.
     SolvedEntry(usize),
-    /// From this entry the box on this square can be pushed this way, and no entry has the state
-    /// that it leads to, with at most one push more.
+    /// From this entry the box on this square can be pushed this way, but no entry that is at most
+    /// one deeper has the resulting state.
     OpenPush(usize, u16, Dir),
     /// The reason of this entry does not hold.
     BadReason(usize),
@@ -39,7 +39,7 @@ pub enum CertFault {
 }
 
 impl CertFault {
-    /// The number by which the fault is printed.
+    /// Returns the number with which the fault is printed.
     pub fn number(&self) -> u8
         ensures { result ≡ cert_fault_number self.now }
     {

@@ -1,4 +1,4 @@
-//! The lines of a certificate, read.
+//! Reads the lines of a certificate.
 
 ghost use Rattle.std.specs.Prelude.{◌≡◌, ◌++◌, IfOk, MatchOption, codes};
 ghost use Rattle.sok_entry.specs.Entries.{bare, bound_of, counts_of, members_of, reason_of};
@@ -18,14 +18,14 @@ const HEADER_ONE: &[u8] = b"sokoban-certificate 1";
 
 const HEADER_TWO: &[u8] = b"sokoban-certificate 2";
 
-/// The last line.
+/// The last line of a certificate.
 pub(crate) const END: &[u8] = b"end";
 
 const UNSOLVABLE: &[u8] = b"unsolvable";
 
 const PUSHES: &[u8] = b"pushes ";
 
-/// The version that a line names, if it is a first line.
+/// Returns the version that a line names, or None if it is no first line.
 pub(crate) fn version_of_line(line: &[u8]) -> Option<Version>
     ensures { Tells (λ version. line.now ≡ header version) result }
 {
@@ -38,7 +38,7 @@ pub(crate) fn version_of_line(line: &[u8]) -> Option<Version>
     None
 }
 
-/// The claim of a line, if it is one.
+/// Returns the claim that a line spells, if any.
 pub(crate) fn claim_of_line(line: &[u8]) -> Option<Claim>
     ensures { Tells (IsClaimLine line.now) result }
 {
@@ -60,8 +60,8 @@ fn pushes_of(word: &[u8]) -> Option<Claim>
     }
 }
 
-/// What a line begins in this version, if it is the first line of an entry. The list is a place for
-/// its numbers, here and below.
+/// Returns what a line begins in this version, or None if it is no first line of an entry. Here and
+/// below, `numbers` is a buffer for the numbers of the line.
 pub(crate) fn opening_of_line(
     alloc: Global,
     numbers: &mut Vec<u32>,
@@ -82,7 +82,7 @@ pub(crate) fn opening_of_line(
     }
 }
 
-/// The inner position of a line, if it is one.
+/// Returns the inner position that a line spells, if any.
 pub(crate) fn inner_of_line(
     alloc: Global,
     numbers: &mut Vec<u32>,
@@ -96,7 +96,7 @@ pub(crate) fn inner_of_line(
     }
 }
 
-/// The inner position of the form of an entry, if there is one.
+/// Returns the inner position of the same form as an entry, or None if there is none.
 fn inner_of(entry: Entry) -> Option<Inner>
     ensures { Tells (λ inner. entry ≡ entry_alike inner) result }
 {
@@ -120,7 +120,7 @@ fn inner_reason_of(reason: Reason) -> Option<InnerReason>
     }
 }
 
-/// The first line of a pattern, if a line is one.
+/// Returns the first line of a pattern that a line spells, if any.
 fn head_of_line(
     alloc: Global,
     numbers: &mut Vec<u32>,
@@ -143,7 +143,7 @@ fn head_of_line(
     head_of(alloc, numbers)
 }
 
-/// The entry of a line, if it is one and no pattern.
+/// Returns the entry that a line spells, if any and if it is no pattern.
 fn entry_of_line(
     alloc: Global,
     numbers: &mut Vec<u32>,
@@ -154,7 +154,7 @@ fn entry_of_line(
     if line.len() < 2 {
         return Ok(None);
     }
-    // A pattern's line, which is read as such.
+    // The line of a pattern; `head_of_line` reads it.
     if line[0] == b'p' {
         return Ok(None);
     }
@@ -167,7 +167,7 @@ fn entry_of_line(
     entry_of(alloc, line[0], numbers)
 }
 
-/// The numbers of a position, and those that stand behind them.
+/// The numbers of a position, and those that follow it.
 #[derive(Clone, Copy)]
 struct Front<'a> {
     depth: u32,
@@ -176,7 +176,8 @@ struct Front<'a> {
     more: &'a [u32],
 }
 
-/// The depth, the player and the boxes behind their count, if there are as many.
+/// Splits numbers into the depth, the player, the boxes after their count, and the rest. None if
+/// there are too few.
 #[tactic(auto, unfolding(crate::specs::Entries::front_of))]
 fn front_of(numbers: &[u32]) -> Option<Front<'_>>
     ensures { MatchOption result (front_of numbers.now ≡ None) (λ front.
@@ -203,7 +204,7 @@ fn front_of(numbers: &[u32]) -> Option<Front<'_>>
     })
 }
 
-/// The entry that a letter and numbers make.
+/// Returns the entry that a letter and numbers spell, if any.
 #[tactic(auto, unfolding(crate::specs::Entries::entry_of))]
 fn entry_of(alloc: Global, letter: u8, numbers: &[u32]) -> Result<Option<Entry>, AllocError>
     ensures { IfOk result (λ entry. entry ≡ entry_of letter numbers.now) }
@@ -222,7 +223,7 @@ fn entry_of(alloc: Global, letter: u8, numbers: &[u32]) -> Result<Option<Entry>,
     }))
 }
 
-/// The reason that a letter and the numbers behind the boxes make.
+/// Returns the reason that a letter and the numbers after the boxes spell, if any.
 #[tactic(auto, unfolding(crate::specs::Entries::reason_of))]
 fn reason_of(
     alloc: Global,
@@ -261,7 +262,7 @@ fn bound_of(alloc: Global, boxes: usize, more: &[u32]) -> Result<Option<Reason>,
     }))
 }
 
-/// The numbers behind their count, if there are as many.
+/// Returns the numbers after their count. None if the count is another.
 #[tactic(auto, unfolding(crate::specs::Entries::members_of))]
 fn members_of(alloc: Global, numbers: &[u32]) -> Result<Option<Numbers>, AllocError>
     ensures { IfOk result (λ members. members ≡ members_of numbers.now) }
@@ -275,7 +276,7 @@ fn members_of(alloc: Global, numbers: &[u32]) -> Result<Option<Numbers>, AllocEr
     Ok(Some(Numbers::copied(alloc, members)?))
 }
 
-/// The first line of a pattern that numbers make.
+/// Returns the first line of a pattern that numbers spell, if any.
 #[tactic(auto, unfolding(crate::specs::Entries::head_of))]
 fn head_of(alloc: Global, numbers: &[u32]) -> Result<Option<Head>, AllocError>
     ensures { IfOk result (λ head. head ≡ head_of numbers.now) }
@@ -295,7 +296,8 @@ fn head_of(alloc: Global, numbers: &[u32]) -> Result<Option<Head>, AllocError>
     }))
 }
 
-/// The numbers behind their count, and the one number behind them, if there are as many.
+/// Returns the numbers after their count, and the one number that follows them. None if there are
+/// more or fewer.
 #[tactic(auto, unfolding(crate::specs::Entries::counts_of))]
 fn counts_of(alloc: Global, numbers: &[u32]) -> Result<Option<(Numbers, u32)>, AllocError>
     ensures { IfOk result (λ counts. counts ≡ counts_of numbers.now) }

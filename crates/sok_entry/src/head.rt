@@ -1,4 +1,4 @@
-//! Entries of which the first line was read.
+//! Entries whose first line has been read.
 
 ghost use Rattle.std.specs.Prelude.{◌≡◌};
 ghost use Rattle.sok_entry.specs.Text.{entry_with};
@@ -6,8 +6,8 @@ ghost use Rattle.sok_entry.specs.Text.{entry_with};
 use crate::entry::{Entry, Numbers, Reason};
 use crate::inners::Inners;
 
-/// The first line of a pattern: the position, the members, and how many lines of inner positions
-/// stand behind it.
+/// The first line of a pattern: the position, the members, and the number of inner positions, whose
+/// lines follow.
 #[derive(Drop)]
 pub struct Head {
     pub depth: u32,
@@ -17,17 +17,17 @@ pub struct Head {
     pub count: u32,
 }
 
-/// What a line begins.
+/// What the first line of an entry begins.
 #[derive(Drop)]
 pub enum Opening {
-    /// An entry of which it is the only line.
+    /// An entry that has no other line.
     Whole(Entry),
     /// A pattern.
     Begun(Head),
 }
 
 impl Head {
-    /// The entry of the pattern with these inner positions.
+    /// Returns the pattern's entry with these inner positions.
     pub fn with(self, inner: Inners) -> Entry
         ensures { result ≡ entry_with self inner }
     {

@@ -8,8 +8,8 @@ use std::alloc::{AllocError, Global};
 use std::marker::Model;
 use std::rc::Rc;
 
-/// Positions of some boxes alone, in order, which many entries may share, and their lines, if they
-/// are kept. They are seen as a list.
+/// The inner positions of a pattern, in order, and their lines if they are kept. Many entries may
+/// share them. The contracts see them as a list.
 #[derive(Drop)]
 pub struct Inners {
     shared: Rc<Shared>,
@@ -35,14 +35,14 @@ impl Model for Inners {
 }
 
 impl Inners {
-    /// These positions, put where they can be shared. Their lines are not kept.
+    /// Makes a list that can be shared, without its lines.
     pub fn new(alloc: Global, items: Vec<Inner>) -> Result<Inners, AllocError>
         ensures { IfOk result (λ inners. inners ≡ items.items) }
     {
         Inners::of(alloc, items, None)
     }
 
-    /// These positions, and their lines, if they are to be kept.
+    /// Makes a list that can be shared, with its lines if they are to be kept.
     pub(crate) fn of(
         alloc: Global,
         items: Vec<Inner>,
@@ -57,7 +57,7 @@ impl Inners {
         }
     }
 
-    /// The same positions, with no copy made.
+    /// Returns the same list without a copy of the positions.
     pub fn share(&self) -> Result<Inners, AllocError>
         ensures { IfOk result (λ inners. inners ≡ self.now) }
     {
@@ -65,14 +65,14 @@ impl Inners {
         Ok(Inners { shared })
     }
 
-    /// The positions, with no copy made.
+    /// Returns the positions without a copy.
     pub fn as_slice(&self) -> &[Inner]
         ensures { result.now ≡ self.now }
     {
         &self.shared.items
     }
 
-    /// Their lines, if they are kept.
+    /// Returns the lines of the positions, if they are kept.
     pub(crate) fn lines(&self) -> Option<&[u8]>
         ensures { IfSome result (λ lines. lines.now ≡ lines_inside self.now) }
     {

@@ -12,14 +12,14 @@ use crate::writing::push_inner_lines;
 use std::alloc::{AllocError, Global};
 use std::marker::Model;
 
-/// The most lists that are kept. All of them are looked through, so they are few.
+/// The greatest number of lists. There are few because each look-up goes through all of them.
 const LISTS: usize = 256;
 
-/// The most bytes of lines that are kept, those of all lists together. The positions take no more
-/// than some times as much.
+/// The greatest number of bytes of the lines of all lists together. The positions take at most a
+/// small multiple of it.
 const BYTES: usize = 4_194_304;
 
-/// Positions, and the bytes of their lines, with LF behind each.
+/// Positions, and the bytes of their lines, each with LF at its end.
 #[derive(Drop)]
 struct KnownList {
     inner: Inners,
@@ -27,7 +27,8 @@ struct KnownList {
 }
 
 impl KnownList {
-    /// The text behind the lines of these positions, if they are so many and it begins with them.
+    /// Returns the text that follows the lines of these positions. None if their number is not
+    /// `count` or `text` does not begin with their lines.
     fn behind<'t>(&self, text: &'t [u8], count: usize) -> Option<&'t [u8]>
         ensures { MatchOption result
             (length self.now.inner ≡ count
@@ -42,9 +43,9 @@ impl KnownList {
     }
 }
 
-/// Lists of inner positions of patterns that were read. The patterns of a certificate mostly have
-/// few, which come again and again, spelled in the same bytes: where one that is known comes again,
-/// its lines need not be read. They are seen as the lists.
+/// Lists of inner positions of patterns that were read. Most certificates have few different
+/// patterns, which are repeated in the same bytes. The lines of a known one need not be read again.
+/// The contracts see the lists of positions.
 #[derive(Drop)]
 pub struct Known {
     lists: Vec<KnownList>,
@@ -65,7 +66,7 @@ impl Model for Known {
 }
 
 impl Known {
-    /// No list is known. It keeps the allocator for those that come.
+    /// Returns an empty collection.
     pub fn new(alloc: Global) -> Known
         ensures { result ≡ [] }
     {
@@ -75,8 +76,8 @@ impl Known {
         }
     }
 
-    /// The known list of so many positions with whose lines a text begins, and the text behind them.
-    /// Each line has LF at its end, and no CR.
+    /// Finds the known list of `count` positions with whose lines `text` begins, and returns it
+    /// with the text that follows. Only lines that end with LF, without CR, are found.
     pub fn at<'k, 't>(&'k self, text: &'t [u8], count: usize) -> Option<(&'k Inners, &'t [u8])>
         ensures { MatchOption result
             ((inner : List Inner) → Contains self.now inner → length inner ≡ count
@@ -91,9 +92,8 @@ impl Known {
         None
     }
 
-    /// Keeps a list, with no copy of its positions made, while there is room. It does nothing where
-    /// the list is known, or has no lines. It refuses only for want of memory, and changes nothing
-    /// then.
+    /// Keeps a list while there is room, without a copy of its positions. Does nothing if the list
+    /// is known already, or has no lines (see `limits`). On an error, nothing changes.
     pub fn keep(&mut self, alloc: Global, inner: &Inners) -> Result<(), AllocError>
         ensures kept { OnOk result (Keeps self.old inner.now self.new) }
         ensures refused { OnErr result (self.new ≡ self.old) }

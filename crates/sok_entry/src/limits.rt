@@ -7,11 +7,12 @@ ghost use Rattle.sok_entry.specs.Text.{numbers_of_reason, reason_alike};
 use crate::claim::Claim;
 use crate::entry::{Certificate, Entry, Inner, InnerReason, Reason};
 
-/// The greatest number of a certificate.
+/// The greatest number that a certificate may have.
 pub const LIMIT: u32 = 1_000_000;
 
-/// Whether a certificate has a text: each number and the length of each list is at most 1,000,000,
-/// those of patterns too, and each bound has as many prices of boxes as its entry has boxes.
+/// Returns whether a certificate has a text. Each number and the length of each list, also of
+/// patterns, must be at most 1,000,000, and each bound must have one price for each box of its
+/// entry.
 pub fn fits(certificate: &Certificate) -> bool
     ensures { IsTrue result ↔ Fits certificate.now.claim certificate.now.entries.items }
 {
@@ -34,7 +35,7 @@ fn entry_fits(entry: &Entry) -> bool
         && reason_fits(&entry.reason, entry.boxes.as_slice().len())
 }
 
-/// Whether the numbers in front of a reason are within the limits.
+/// Checks the numbers that come before a reason.
 fn position_fits(depth: u32, player: u32, boxes: &[u32]) -> bool
     ensures { IsTrue result
         ↔ All IsSmall (depth ∷ player ∷ length boxes.now ∷ boxes.now) }
@@ -42,7 +43,7 @@ fn position_fits(depth: u32, player: u32, boxes: &[u32]) -> bool
     are_small(&[depth, player]) && counted_fits(boxes)
 }
 
-/// Whether the numbers of a reason are within the limits, at an entry with this many boxes.
+/// Checks the numbers of a reason, at an entry with this many boxes.
 fn reason_fits(reason: &Reason, boxes: usize) -> bool
     ensures { IsTrue result ↔ FitsReason reason.now boxes }
 {
@@ -62,14 +63,14 @@ fn pattern_fits(members: &[u32], inner: &[Inner]) -> bool
     counted_fits(members) && inner_fit(inner)
 }
 
-/// Whether inner positions are within the limits, and how many there are.
+/// Checks the inner positions of a pattern, and their number.
 fn inner_fit(inner: &[Inner]) -> bool
     ensures { IsTrue result ↔ (IsSmall (length inner.now) × All FitsInner inner.now) }
 {
     inner.len() <= LIMIT as usize && all_fit(inner)
 }
 
-/// Whether each of some inner positions has a line.
+/// Returns whether each of these inner positions has a line.
 pub(crate) fn all_fit(inner: &[Inner]) -> bool
     ensures { IsTrue result ↔ All FitsInner inner.now }
 {
@@ -106,7 +107,7 @@ fn both_are_small(u: &[u32], v: &[u32]) -> bool
     are_small(u) && are_small(v)
 }
 
-/// Whether numbers that stand behind their count are within the limits.
+/// Checks numbers that are written after their count.
 fn counted_fits(numbers: &[u32]) -> bool
     ensures { IsTrue result ↔ All IsSmall (length numbers.now ∷ numbers.now) }
 {

@@ -1,4 +1,4 @@
-//! Numbers of a certificate's text.
+//! Reads the numbers of a certificate's text.
 
 ghost use Rattle.std.specs.Prelude.{ℕ, List, ◌≡◌, IfOk, MatchBool, MatchOption, decimal};
 ghost use Rattle.sok_entry.specs.Text.{IsSmall};
@@ -8,8 +8,8 @@ ghost use Rattle.sok_entry.specs.Fronts.{BeginsWith, HasDigits};
 use crate::limits::LIMIT;
 use std::alloc::AllocError;
 
-/// Reads the numbers of a text in which single spaces stand between numbers, and tells whether it is
-/// one. The list is a place for them. The text is read once, byte by byte.
+/// Reads the numbers of a text into `numbers`. Returns false if the text is not numbers with single
+/// spaces between them. Reads the text once, byte by byte.
 pub(crate) fn read_numbers(numbers: &mut Vec<u32>, text: &[u8]) -> Result<bool, AllocError>
     ensures { IfOk result (λ read. MatchBool read (AreWords text.now numbers.new.items)
         ((ns : List ℕ) → AreWords text.now ns → ⊥)) }
@@ -28,7 +28,8 @@ pub(crate) fn read_numbers(numbers: &mut Vec<u32>, text: &[u8]) -> Result<bool, 
     }
 }
 
-/// The number that a word is in decimal, without leading zeros, if it is at most 1,000,000.
+/// Returns the value of a word that is a decimal number without leading zeros, of at most
+/// 1,000,000.
 pub(crate) fn number_of(word: &[u8]) -> Option<u32>
     ensures { Tells (λ n. IsSmall n × (word.now ≡ decimal n)) result }
 {
@@ -42,8 +43,9 @@ pub(crate) fn number_of(word: &[u8]) -> Option<u32>
     }
 }
 
-/// The number at the front of a text, in decimal without leading zeros, up to a space or the end, if
-/// it is at most 1,000,000; and what stands from there on.
+/// Splits a text after the number with which it begins: decimal, without leading zeros, at most
+/// 1,000,000, and followed by a space or the end. Returns the number and the rest, from the space
+/// on.
 fn cut_number(text: &[u8]) -> Option<(u32, &[u8])>
     ensures { MatchOption result ((n : ℕ) (rest : List ℕ) → BeginsWith text.now n rest → ⊥)
         (λ cut. BeginsWith text.now cut.0 cut.1.now) }
@@ -58,8 +60,8 @@ fn cut_number(text: &[u8]) -> Option<(u32, &[u8])>
     Some((number, &text[count..]))
 }
 
-/// The value of the digits at the front of a text, up to a space or the end, if it is at most
-/// 1,000,000; and how many they are.
+/// Returns the value and the number of the digits up to the first space or the end. None if another
+/// byte comes before, or the value is above 1,000,000.
 fn front_value(text: &[u8]) -> Option<(u32, usize)>
     ensures { MatchOption result ((n : ℕ) (rest : List ℕ) → BeginsWith text.now n rest → ⊥)
         (λ told. HasDigits text.now told.0 told.1) }

@@ -1,4 +1,4 @@
-//! Certificates, read from their text.
+//! Reads certificates from their text.
 
 ghost use Rattle.std.specs.Prelude.{ℕ, ◌≡◌, ◌<◌, ◌^◌, ◌⊎◌, ◌++◌, ◌∷◌, [], List, IfErr, IfOk, MatchResult, length};
 ghost use Rattle.sok_entry.specs.Text.{SpellsCertificate};
@@ -14,16 +14,17 @@ use crate::stage::{LineRead, Stage};
 use sok_text::line::{cut_at_end, without_return};
 use std::alloc::Global;
 
-/// Reads a certificate from its text. Lines end with LF or CR LF, and the last one may have no end.
-/// The fault of another text is the one that comes first in it: `Header` where the first line or
-/// the second is missing or has another form; then, line by line, `Truncated` where no line is left
-/// before `end`, or a line that is not `end` has no end; `Line` where a line that has its end is
-/// neither an entry nor `end`, or stands behind `end`. Where an inner position of a pattern belongs,
-/// any other line that has its end is a `Line`, and `end` without one is `Truncated` too.
+/// Reads a certificate from its text. Lines end with LF or CR LF; the last one may have no end.
+///
+/// Errors: the first fault of the text. `Header` if the first or second line is missing or has
+/// another form. Then, line by line: `Truncated` if no line is left before `end`, or a line that is
+/// not `end` has no end; `Line` if a line with an end is neither an entry nor `end`, or a line
+/// follows `end`. Where an inner position of a pattern has to follow, `Line` if a line with an end
+/// is anything else, and `Truncated` also for `end` without an end. `Memory` at any time.
 pub fn read(alloc: Global, text: &[u8]) -> Result<Certificate, CertFault>
-    // What is read is spelled so.
+    // What is returned is what the text spells.
     ensures found { IfOk result (λ found. SpellsCertificate text.now found.claim found.entries.items) }
-    // What is spelled so is read, unless memory runs out.
+    // A text that spells a certificate is read, unless memory is refused.
     ensures only { (claim : Claim) (entries : List Entry) → SpellsCertificate text.now claim entries
         → MatchResult result (λ found. (found.claim ≡ claim) × (found.entries.items ≡ entries))
         (λ fault. fault ≡ cert.Memory) }
@@ -32,7 +33,7 @@ pub fn read(alloc: Global, text: &[u8]) -> Result<Certificate, CertFault>
     certificate_of(alloc, text)
 }
 
-/// The certificate of a text.
+/// Does the work of `read`. That function adds the clause `only`.
 fn certificate_of(alloc: Global, text: &[u8]) -> Result<Certificate, CertFault>
     ensures { MatchResult result (λ found. SpellsCertificate text.now found.claim found.entries.items)
         (λ fault. (fault ≡ cert.Memory) ⊎ GoesWrong text.now fault) }
@@ -52,8 +53,8 @@ fn certificate_of(alloc: Global, text: &[u8]) -> Result<Certificate, CertFault>
     Ok(Certificate { claim, entries })
 }
 
-/// Reads one more line, behind so many. An entry that it ends goes to the entries. The list of
-/// numbers is a place for those of the line.
+/// Reads the next line, after `lines` others, and appends the entry that it completes, if any.
+/// `numbers` is a buffer for the numbers of the line.
 fn read_line(
     alloc: Global,
     numbers: &mut Vec<u32>,

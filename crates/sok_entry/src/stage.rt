@@ -1,4 +1,4 @@
-//! How far a certificate is read, line by line.
+//! How far a certificate has been read, line by line.
 
 ghost use Rattle.std.specs.Prelude.{ℕ, ◌≡◌, ◌<◌, ◌≤◌, ◌^◌, ◌++◌, ◌∷◌, [], List, All, IfOk, MatchResult, Some};
 ghost use Rattle.std.specs.Prelude.{length, map};
@@ -23,34 +23,34 @@ use std::alloc::{AllocError, Global};
 pub enum Stage {
     /// The header.
     AtHeader,
-    /// The claim, in this version.
+    /// The claim, in this version of the text.
     AtClaim(Version),
     /// Entries of a certificate with this claim, or `end`.
     AtEntries(Version, Claim),
-    /// An inner position of the pattern that is read, behind these.
+    /// An inner position of the pattern with this first line, after these.
     AtInner {
         claim: Claim,
         head: Head,
         inner: Vec<Inner>,
     },
-    /// Nothing: the certificate with this claim is whole.
+    /// Nothing: the certificate with this claim is complete.
     AtEnd(Claim),
 }
 
-/// What a line is, behind those that were read.
+/// What a line is, given the lines before it.
 #[derive(Drop)]
 pub enum LineRead {
     /// The last line of an entry of a certificate with this claim, and what comes next.
     Listed(Claim, Entry, Stage),
-    /// Another line that belongs there, and what comes next.
+    /// Another line that may come here, and what comes next.
     Passed(Stage),
-    /// A line with which the text goes wrong, whatever stands behind it.
+    /// A line with which the text goes wrong, whatever follows.
     Wrong(CertFault),
 }
 
 impl Stage {
-    /// Reads one more line, without its end, behind so many lines. The list is a place for its
-    /// numbers. It refuses only for want of memory, and then the stage is gone.
+    /// Reads the next line, given without its end, after `lines` others. `numbers` is a buffer for
+    /// its numbers. On an error, the stage is lost.
     pub fn line(
         self,
         alloc: Global,
@@ -74,7 +74,8 @@ impl Stage {
         }
     }
 
-    /// How many inner positions come next, where a pattern is begun and none of them was read.
+    /// Returns the number of inner positions to come, if a pattern has begun and none has been
+    /// read.
     pub fn awaited(&self) -> Option<usize>
         ensures { result ≡ awaited self.now }
     {
@@ -84,8 +85,8 @@ impl Stage {
         }
     }
 
-    /// Passes the lines of all inner positions of a pattern, where it is known what they are. The
-    /// entry shares them. It refuses only for want of memory, and then the stage is gone.
+    /// Skips the lines of all inner positions of a pattern, if it is known what they are. The entry
+    /// shares them. On an error, the stage is lost.
     pub fn pass(self, inner: &Inners) -> Result<LineRead, AllocError>
         requires { awaited self ≡ Some (length inner.now) }
         ensures { (ls : List (List ℕ)) (es : List Entry)
@@ -98,8 +99,8 @@ impl Stage {
         Ok(whole(claim, head, inner.share()?))
     }
 
-    /// What a text claims that ends here, behind so many lines and with bytes in which no line ends;
-    /// or why it is no certificate. It takes no memory.
+    /// Returns the claim of a text that ends here, after `lines` lines and the bytes `rest`, in
+    /// which no line ends. Takes no memory. Errors: the fault of the text, if it is no certificate.
     pub fn ended(&self, rest: &[u8], lines: usize) -> Result<Claim, CertFault>
         requires { lines < 2 ^ 63 }
         ensures { (text : List ℕ) (ls : List (List ℕ)) (es : List Entry)
@@ -195,7 +196,7 @@ fn at_inner(
     }
 }
 
-/// What the last line is that was read of a pattern.
+/// Returns what the latest line of a pattern is, with which these inner positions were read.
 fn inside(
     alloc: Global,
     claim: Claim,
@@ -213,7 +214,7 @@ fn inside(
     Ok(whole(claim, head, Inners::new(alloc, inner)?))
 }
 
-/// What the last line is of a pattern, of which these are the inner positions.
+/// Returns the entry of a pattern whose inner positions are complete.
 fn whole(claim: Claim, head: Head, inner: Inners) -> LineRead
     ensures { (ls : List (List ℕ)) (es : List Entry)
         → FitsHead head → All FitsInner inner → length inner ≡ head.count

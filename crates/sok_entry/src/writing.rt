@@ -1,5 +1,5 @@
-//! The text of a certificate, whole or line by line. Where memory is refused in a line, the text stays
-//! as it was.
+//! Writes the text of a certificate, whole or line by line. If memory is refused, the public
+//! functions that append leave the text as it was.
 
 ghost use Rattle.std.specs.Prelude.{◌≡◌, ◌+◌, ◌<◌, ◌≤◌, ◌++◌, ◌∷◌, [], IfOk, OnErr, OnOk, length, map};
 ghost use Rattle.std.specs.Prelude.{vec_capacity, vec_len, decimal};
@@ -17,8 +17,8 @@ use itoa::Buffer;
 use sok_rules::fault::Memory;
 use std::alloc::{AllocError, Global};
 
-/// The text of a certificate: the header, the claim, the lines of each entry, and `end`. Each line
-/// ends with LF. The version is 1 where no entry is a pattern, else 2.
+/// Returns the text of a certificate: the header, the claim, the lines of each entry, and `end`.
+/// Each line ends with LF. The version is 1 if no entry is a pattern, otherwise 2.
 pub fn write(alloc: Global, certificate: &Certificate) -> Result<Vec<u8>, Memory>
     requires { Fits certificate.now.claim certificate.now.entries.items }
     ensures exact { IfOk result (λ text. text.items
@@ -45,7 +45,7 @@ pub fn write(alloc: Global, certificate: &Certificate) -> Result<Vec<u8>, Memory
     Ok(text)
 }
 
-/// The version that is written where these are the entries.
+/// Returns the version in which a certificate with these entries is written.
 pub fn version_of(entries: &[Entry]) -> Version
     ensures { result ≡ version_of entries.now }
 {
@@ -62,18 +62,18 @@ fn has_pattern(entries: &[Entry]) -> bool
     entries.iter().any(|entry| is_pattern(&entry.reason))
 }
 
-/// Whether a reason is a pattern, which version 1 has not.
+/// Returns whether a reason is a pattern. Version 1 has none.
 pub fn is_pattern(reason: &Reason) -> bool
     ensures { result ≡ is_pattern reason.now }
 {
     matches!(reason, Reason::Pattern { .. })
 }
 
-/// So many bytes are in front of the entries, at the most: 22 of the header, and 18 of the claim.
+/// The greatest number of bytes before the entries: 22 of the header and 18 of the claim.
 const FRONT: usize = 40;
 
-/// Appends the lines in front of the entries: the header and the claim. It asks for their room
-/// first, so that a refusal leaves the text as it was.
+/// Appends the header and the claim. Reserves their room first, so that an error leaves the text as
+/// it was.
 pub fn push_front(text: &mut Vec<u8>, version: Version, claim: &Claim) -> Result<(), AllocError>
     ensures lines { OnOk result (text.new.items
         ≡ text.old.items ++ (ended (header version) ++ ended (claim_line claim.now))) }
@@ -86,7 +86,7 @@ pub fn push_front(text: &mut Vec<u8>, version: Version, claim: &Claim) -> Result
     Ok(())
 }
 
-/// The first line with its end, 22 bytes.
+/// Returns the first line with its end, 22 bytes.
 #[tactic(auto, unfolding(crate::specs::Text::header))]
 fn header_of(version: Version) -> &'static [u8]
     ensures line { result.now ≡ ended (header version) }
@@ -98,7 +98,7 @@ fn header_of(version: Version) -> &'static [u8]
     }
 }
 
-/// Appends the line of the claim, 18 bytes at the most.
+/// Appends the line of the claim, at most 18 bytes.
 #[tactic(auto, unfolding(crate::specs::Text::claim_line))]
 fn push_claim(text: &mut Vec<u8>, claim: &Claim) -> Result<(), AllocError>
     ensures line { OnOk result (text.new.items ≡ text.old.items ++ ended (claim_line claim.now)) }
@@ -115,9 +115,8 @@ fn push_claim(text: &mut Vec<u8>, claim: &Claim) -> Result<(), AllocError>
     }
 }
 
-/// Appends the lines of an entry, which is told by its parts. It succeeds where there is room for
-/// them. A refusal leaves the text as it was: the front of the lines that is appended by then is
-/// taken back.
+/// Appends the lines of an entry, which is given in its parts. Succeeds if the text has room for
+/// them. On an error, it takes back what it has appended, so that the text is as it was.
 pub fn push_entry(
     text: &mut Vec<u8>,
     depth: u32,
@@ -140,7 +139,7 @@ pub fn push_entry(
     pushed
 }
 
-/// Appends the lines of an entry, or a front of them where memory is refused.
+/// Appends the lines of an entry, or only a front of them if memory is refused.
 fn push_lines(
     text: &mut Vec<u8>,
     depth: u32,
@@ -159,7 +158,7 @@ fn push_lines(
     push_inner(text, reason)
 }
 
-/// Appends the lines of the inner positions of a reason, which a pattern has.
+/// Appends the lines of the inner positions, if the reason is a pattern.
 fn push_inner(text: &mut Vec<u8>, reason: &Reason) -> Result<(), AllocError>
     ensures lines { OnOk result
         (text.new.items ≡ text.old.items ++ inner_text (inner_of reason.now)) }
@@ -178,8 +177,7 @@ fn push_inner(text: &mut Vec<u8>, reason: &Reason) -> Result<(), AllocError>
 }
 
 impl Inners {
-    /// These positions, put where they can be shared, and their lines, which are written again and
-    /// again.
+    /// Makes a list that can be shared, with its lines, for positions that are written many times.
     pub fn with_lines(alloc: Global, items: Vec<Inner>) -> Result<Inners, AllocError>
         ensures { IfOk result (λ inners. inners ≡ items.items) }
     {
@@ -250,7 +248,7 @@ fn push_inner_reason(text: &mut Vec<u8>, reason: &InnerReason) -> Result<(), All
     }
 }
 
-/// Appends the first line of an entry, or a front of it where memory is refused.
+/// Appends the first line of an entry, or only a front of it if memory is refused.
 #[tactic(auto, unfolding(crate::specs::Text::entry_line))]
 fn push_line(
     text: &mut Vec<u8>,
@@ -292,8 +290,8 @@ fn push_position(
     push_counted(text, boxes)
 }
 
-/// Appends the line behind the entries. It succeeds where there is room for it, and a refusal leaves
-/// the text as it was.
+/// Appends the line `end`. Succeeds if the text has room for it. On an error, the text is as it
+/// was.
 #[tactic(auto, unfolding(crate::specs::Text::last_line))]
 pub fn push_end(text: &mut Vec<u8>) -> Result<(), AllocError>
     ensures line { OnOk result (text.new.items ≡ text.old.items ++ ended last_line) }
@@ -342,7 +340,7 @@ fn push_reason(text: &mut Vec<u8>, reason: &Reason) -> Result<(), AllocError>
     }
 }
 
-/// Numbers behind their count.
+/// Appends numbers, after their count.
 fn push_counted(text: &mut Vec<u8>, numbers: &[u32]) -> Result<(), AllocError>
     ensures numbers { OnOk result
         (text.new.items ≡ text.old.items ++ spaced (length numbers.now ∷ numbers.now)) }
@@ -368,7 +366,8 @@ fn push_numbers(text: &mut Vec<u8>, numbers: &[u32]) -> Result<(), AllocError>
     Ok(())
 }
 
-/// Appends a number behind a space. Most have three digits or fewer, and are pushed as they are.
+/// Appends a space and a number. Most numbers have at most three digits; their digits are computed
+/// here.
 fn push_number(text: &mut Vec<u8>, number: usize) -> Result<(), AllocError>
     ensures number { OnOk result (text.new.items ≡ text.old.items ++ spaced (number ∷ [])) }
     ensures capacity { vec_capacity text.old ≤ vec_capacity text.new }

@@ -1,4 +1,4 @@
--- A flood over both halves of a set, which comes across the seam between them by rounds.
+-- A flood over both halves of a set, which crosses the seam between them by rounds.
 use Rattle.std.specs.Prelude.{ℕ, ◌≡◌, List, true, length, slice_index}
 use Rattle.sok_rules.specs.declared.cell.Spot.{Spot}
 use Rattle.sok_field.specs.Fields.{has}
@@ -17,7 +17,7 @@ pub record IsCrossed (free_low free_high low high new_low new_high : List ℕ) :
 abbrev pub AreClosed : List ℕ → List ℕ → List ℕ → List ℕ → Type 0
 AreClosed free_low free_high low high = IsCrossed free_low free_high low high low high
 
--- both halves on their way: free squares that are joined to one, itself among them
+-- both halves during a flood: they have the square `from`, and otherwise only free squares that are joined to it
 pub record IsWide (free_low free_high : List ℕ) (from : Spot) (low high : List ℕ) : Type 0 where
   pub whole_low : length low ≡ length free_low
   pub whole_high : length high ≡ length free_low

@@ -1,10 +1,10 @@
--- A flood on its way: free squares that are joined to those of a start, and the start among them.
+-- A flood in progress: it has the squares of a start, and otherwise only free squares that are joined to these.
 use Rattle.std.specs.Prelude.{ℕ, ◌≡◌, List, Bool, true, length, slice_index, bit_and}
 use Rattle.sok_rules.specs.declared.cell.Spot.{Spot}
 use Rattle.sok_field.specs.Fields.{has}
 use Rattle.sok_field.specs.Ways.{Joined}
 
--- a square that is joined to one of a start
+-- a square that is joined to a square of a start
 abbrev pub Reaches : List ℕ → (Spot → Bool) → Spot → Type 0
 Reaches free start s = (t : Spot) × (start t ≡ true) × Joined (has free) t s
 

@@ -7,33 +7,33 @@ use Rattle.sok_field.specs.Fields.{has, IsFirstSquare}
 use Rattle.sok_field.specs.Trails.{Leads}
 use Rattle.sok_field.specs.Ways.{Joined}
 
--- bit rows with the squares of a board of whose numbers something holds, and no others
+-- bit rows that have exactly the squares of a board whose numbers satisfy `P`
 abbrev pub Draws : BoardView → (ℕ → Type 0) → List ℕ → Type 0
 Draws b P rows = (s : Spot) → (has rows s ≡ true) ↔ ((n : ℕ) × (number_of b s ≡ Some n) × P n)
 
--- squares are joined as their numbers are
+-- squares are joined exactly if their numbers are
 abbrev pub JoinsNumbers : BoardView → Type 0
 JoinsNumbers b =
     (lets : ℕ → Bool) (free : List ℕ) → Draws b (λ n. lets n ≡ true) free → (m n : ℕ) → m < length b.area → n < length b.area
     → Joined (has free) (spot_of b m) (spot_of b n) ↔ Leads b lets m n
 
--- all that is joined to a square with a number has one
+-- each square that is joined to a square with a number has a number
 abbrev pub JoinsInside : BoardView → Type 0
 JoinsInside b =
     (lets : ℕ → Bool) (free : List ℕ) → Draws b (λ n. lets n ≡ true) free → (m : ℕ) (s : Spot) → m < length b.area → Joined (has free) (spot_of b m) s
     → (n : ℕ) × (number_of b s ≡ Some n)
 
--- the first square has the least number
+-- the first square of a set has the least number
 abbrev pub FirstIsLeast : BoardView → Type 0
 FirstIsLeast b =
     (test : ℕ → Bool) (rows : List ℕ) (s : Spot) → Draws b (λ n. test n ≡ true) rows → IsFirstSquare (has rows) s
     → (n : ℕ) × (number_of b s ≡ Some n) × (test n ≡ true) × ((k : ℕ) → k < length b.area → test k ≡ true → n ≤ k)
 
--- the bit of a number
+-- where the bit of a number is
 abbrev pub bit_of_number : ℕ → Spot
 bit_of_number n = record { row = n / word_bits; col = n % word_bits }
 
--- a set of squares as bits by number
+-- whether a number is in a set of squares as bits by number
 abbrev pub has_number : List ℕ → ℕ → Bool
 has_number words n = has words (bit_of_number n)
 

@@ -1,4 +1,4 @@
-//! One square of bit rows.
+//! Single squares of bit rows.
 
 ghost use Rattle.std.specs.Prelude.{◌≡◌, ◌<◌, ◌↔◌, ◌≤◌, ◌⊎◌, IfSome, MatchOption, true, false, length};
 ghost use Rattle.sok_rules.specs.declared.cell.Spot.{Spot};
@@ -7,7 +7,7 @@ ghost use Rattle.sok_field.specs.Fields.{has, IsFirstSquare};
 use crate::field::ROWS;
 use sok_rules::cell::Spot;
 
-/// Whether a square is of a set. It is none past the rows or the 64 columns.
+/// Returns whether a square is in a set. A square past the rows is in none.
 pub(crate) fn has(rows: &[u64], spot: Spot) -> bool
     requires { spot.col < 64 }
     ensures { result ≡ has rows.now spot }
@@ -29,7 +29,7 @@ pub(crate) fn put(rows: &mut [u64], spot: Spot)
     rows[row] = word | (1 << spot.col);
 }
 
-/// Takes a square out of a set.
+/// Removes a square from a set.
 pub(crate) fn take(rows: &mut [u64], spot: Spot)
     requires row { spot.row < length rows.old }
     requires col { spot.col < 64 }
@@ -40,7 +40,7 @@ pub(crate) fn take(rows: &mut [u64], spot: Spot)
     rows[row] = word & !(1 << spot.col);
 }
 
-/// The first square of a set, row by row and from left to right.
+/// Returns the first square of a set, row by row and from left to right.
 pub(crate) fn first(rows: &[u64]) -> Option<Spot>
     requires { length rows.now ≤ ROWS }
     ensures first { MatchOption result
@@ -58,7 +58,7 @@ pub(crate) fn first(rows: &[u64]) -> Option<Spot>
     None
 }
 
-/// Takes all squares out of a set.
+/// Removes all squares from a set.
 pub(crate) fn clear(rows: &mut [u64])
     ensures { (s : Spot) → has rows.new s ≡ false }
 {

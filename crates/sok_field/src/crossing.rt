@@ -1,4 +1,4 @@
-//! The squares that are joined to one over both halves of a set.
+//! The flood over both halves of a set.
 
 ghost use Rattle.std.specs.Prelude.{ℕ, ◌≡◌, ◌<◌, ◌≤◌, ◌+◌, ◌↔◌, IfNone, IfSome, IsTrue, bit_and, bit_or, false, length, slice_index};
 ghost use Rattle.sok_rules.specs.declared.cell.Spot.{Spot};
@@ -14,20 +14,20 @@ use crate::half::COLUMNS;
 use crate::{bits, field};
 use sok_rules::cell::Spot;
 
-/// Squares that are new in two halves of a set.
+/// New squares in the two halves of a set.
 #[derive(Clone, Copy)]
 struct News {
-    /// The first row with one, and the last.
+    /// The first row with a new square, and the last.
     first: usize,
     last: usize,
-    /// The columns of each half with one, as bits.
+    /// The columns of each half with a new square, as bits.
     low: u64,
     high: u64,
 }
 
-/// Makes two halves of a set, which have no square, the squares that are joined to one over free
-/// squares, itself among them. Each half is flooded by itself, and then a round over both comes
-/// across the seam between them, until a round meets no more.
+/// Fills two empty halves of a set with the squares that are joined to `from` over free squares,
+/// itself among them. Each half is flooded by itself. Then a round over both crosses the seam
+/// between them, and so on until a round adds no more.
 pub(crate) fn flood_halves(
     free_low: &[u64],
     free_high: &[u64],
@@ -67,8 +67,8 @@ pub(crate) fn flood_halves(
     }
 }
 
-/// Makes a round over both halves in place, where a round over each changes nothing: so only what
-/// comes across the seam is added. Tells where there is more, if there is.
+/// Makes a round over both halves in place. A round over each alone would change nothing, so this
+/// adds only what crosses the seam. Returns where squares were added, or None if none were.
 fn cross(free_low: &[u64], free_high: &[u64], low: &mut [u64], high: &mut [u64]) -> Option<News>
     requires free { length free_high.now ≡ length free_low.now }
     requires low { length low.old ≡ length free_low.now }

@@ -11,7 +11,7 @@ use crate::field::Field;
 use sok_board::area::Sq;
 use sok_board::board::Board;
 
-/// The squares of the area.
+/// Returns the squares of the area.
 pub fn area(board: &Board) -> Field
     ensures drawn { Draws board.now (λ n. n < length board.now.area) result }
     ensures accepted { IsAccepted board.now }
@@ -21,8 +21,8 @@ pub fn area(board: &Board) -> Field
     field
 }
 
-/// Makes a set without squares that of the squares of the area. A set that is made in its place is
-/// not moved there, which takes longer than a flood of a small board.
+/// Puts the squares of the area into an empty set. A set that is filled in its place need not be
+/// moved there, which takes longer than a flood of a small board.
 pub fn draw(field: &mut Field, board: &Board)
     requires { (s : Spot) → has field.old s ≡ false }
     ensures drawn { Draws board.now (λ n. n < length board.now.area) field.new }
@@ -34,7 +34,7 @@ pub fn draw(field: &mut Field, board: &Board)
     }
 }
 
-/// Leaves of the area the squares without a box.
+/// Removes the squares of boxes from the area.
 pub fn take_boxes(field: &mut Field, board: &Board, boxes: &[Sq])
     requires accepted { IsAccepted board.now }
     requires exist { All (λ n. n < length board.now.area) boxes.now }
@@ -46,7 +46,7 @@ pub fn take_boxes(field: &mut Field, board: &Board, boxes: &[Sq])
     }
 }
 
-/// The squares of the area without a box.
+/// Returns the squares of the area without a box.
 pub fn free_squares(board: &Board, boxes: &[Sq]) -> Field
     requires { All (λ n. n < length board.now.area) boxes.now }
     ensures drawn { Draws board.now (λ n. Contains boxes.now n → ⊥) result }
@@ -58,7 +58,7 @@ pub fn free_squares(board: &Board, boxes: &[Sq]) -> Field
     free
 }
 
-/// Makes a set the squares to which letters lead from one over free squares.
+/// Overwrites `seen` with the squares that letters lead to from `start` over free squares.
 pub fn flood_from(seen: &mut Field, free: &Field, board: &Board, start: Sq)
     requires accepted { IsAccepted board.now }
     requires exists { start < length board.now.area }

@@ -1,4 +1,4 @@
-//! Sets of squares of a level in bit rows.
+//! Sets of squares of a level, in bit rows.
 
 ghost use Rattle.std.specs.Prelude.{ℕ, ◌≡◌, ◌<◌, ◌≤◌, ◌+◌, ◌%◌, ◌↔◌, ◌⊎◌, MatchOption, IsTrue, false};
 ghost use Rattle.std.specs.Int.{bit_at};
@@ -14,15 +14,15 @@ use sok_board::spans::Span;
 use sok_rules::cell::Spot;
 use std::marker::Model;
 
-/// How many rows a set of squares has: those of the largest level.
+/// The number of rows of a set: those of the largest level.
 pub const ROWS: usize = 128;
 
-/// How many columns: two words of bits a row.
+/// The number of columns: two words of bits for each row.
 pub const COLUMNS: u32 = 128;
 
-/// A set of squares, two words for each row and a bit for each column. It is seen as a number for
-/// each row, which the test `has` reads. It takes no memory. Where no square lies in the upper half
-/// of the columns, only the words of the lower half are gone through.
+/// A set of squares: two words for each row, and a bit for each column. The contracts see it as a
+/// number for each row, which the test `has` reads. It allocates nothing. If the upper half of the
+/// columns has no square, only the words of the lower half are visited.
 #[derive(Drop)]
 pub struct Field {
     low: Half,
@@ -39,7 +39,7 @@ impl Model for Field {
 }
 
 impl Field {
-    /// A set with no square.
+    /// Returns an empty set.
     pub fn new() -> Field
         ensures { (s : Spot) → has result s ≡ false }
     {
@@ -49,7 +49,7 @@ impl Field {
         }
     }
 
-    /// Whether a square is of the set.
+    /// Returns whether a square is in the set.
     pub fn has(&self, spot: Spot) -> bool
         requires { spot.col < COLUMNS }
         ensures { result ≡ has self.now spot }
@@ -60,8 +60,8 @@ impl Field {
         })
     }
 
-    /// The half that has a column. It is chosen without a branch, since a search asks of squares
-    /// again and again.
+    /// Returns the half that has a column. It is chosen without a branch, since a search tests
+    /// squares very often.
     fn half(&self, col: u32) -> &Half
         requires { col < COLUMNS }
         ensures { (s : Spot) → s.col ≡ col → has result.now (folded s) ≡ has self.now s }
@@ -86,7 +86,7 @@ impl Field {
         }
     }
 
-    /// Puts the squares of a span into the set, which lie in one half.
+    /// Puts the squares of a span into the set. The span lies in one half.
     pub(crate) fn put_span(&mut self, span: Span)
         requires some { 0 < span.length }
         requires row { span.first.row < ROWS }
@@ -101,8 +101,8 @@ impl Field {
         }
     }
 
-    /// The squares of a span that are of the set, the leftmost one as the lowest bit. The span lies in
-    /// one half.
+    /// Returns the squares of a span that are in the set, the leftmost one as the lowest bit. The
+    /// span lies in one half.
     pub(crate) fn cut(&self, span: Span) -> u64
         requires some { 0 < span.length }
         requires row { span.first.row < ROWS }
@@ -117,7 +117,7 @@ impl Field {
         self.high.cut(span_within(span))
     }
 
-    /// Takes a square out of the set.
+    /// Removes a square from the set.
     pub fn take(&mut self, spot: Spot)
         requires row { spot.row < ROWS }
         requires col { spot.col < COLUMNS }
@@ -131,7 +131,7 @@ impl Field {
         }
     }
 
-    /// Makes it the squares of another set.
+    /// Replaces the squares with those of another set.
     pub fn copy_from(&mut self, other: &Field)
         ensures { self.new ≡ other.now }
     {
@@ -139,7 +139,7 @@ impl Field {
         self.high.copy_from(&other.high);
     }
 
-    /// The first square, row by row and from left to right.
+    /// Returns the first square, row by row and from left to right.
     pub fn first(&self) -> Option<Spot>
         ensures { MatchOption result
             ((s : Spot) → has self.now s ≡ false) (IsFirstSquare (has self.now)) }
@@ -154,7 +154,7 @@ impl Field {
         }
     }
 
-    /// Takes all squares out of the set.
+    /// Removes all squares from the set.
     pub fn clear(&mut self)
         ensures { (s : Spot) → has self.new s ≡ false }
     {
@@ -162,7 +162,8 @@ impl Field {
         self.high.clear();
     }
 
-    /// Makes it the squares that are joined to one over free squares, itself among them.
+    /// Replaces the squares with those that are joined to `from` over free squares, itself among
+    /// them.
     pub fn flood(&mut self, free: &Field, from: Spot)
         requires { IsTrue (has free.now from) }
         ensures { (s : Spot) → IsTrue (has self.new s) ↔ Joined (has free.now) from s }
@@ -176,8 +177,8 @@ impl Field {
     }
 }
 
-/// Puts a square into the upper half of a set. This and its like stand apart, so that what is done
-/// again and again on a narrow board stays short.
+/// Puts a square into the upper half of a set. This and the next are functions of their own, so
+/// that the code that runs often on a narrow board stays short.
 #[cold]
 fn put_beyond(high: &mut Half, spot: Spot)
     requires row { spot.row < ROWS }
@@ -189,7 +190,7 @@ fn put_beyond(high: &mut Half, spot: Spot)
     high.put(within(spot));
 }
 
-/// Takes a square out of the upper half of a set.
+/// Removes a square from the upper half of a set.
 #[cold]
 fn take_beyond(high: &mut Half, spot: Spot)
     requires row { spot.row < ROWS }
@@ -201,7 +202,7 @@ fn take_beyond(high: &mut Half, spot: Spot)
     high.take(within(spot));
 }
 
-/// A square of the upper half of the columns, by its column within it.
+/// Converts a square of the upper half: its column is then counted within that half.
 pub(crate) fn within(spot: Spot) -> Spot
     requires { word_bits ≤ spot.col }
     ensures { result ≡ within spot }
@@ -212,7 +213,7 @@ pub(crate) fn within(spot: Spot) -> Spot
     }
 }
 
-/// A square of the upper half of the columns, given by its column within it.
+/// Converts a square of the upper half back, whose column is counted within that half.
 fn beyond(spot: Spot) -> Spot
     requires { spot.col < word_bits }
     ensures { result ≡ beyond spot }
@@ -223,7 +224,7 @@ fn beyond(spot: Spot) -> Spot
     }
 }
 
-/// A span of the upper half of the columns, by its columns within it.
+/// Converts a span of the upper half: its columns are then counted within that half.
 fn span_within(span: Span) -> Span
     requires { word_bits ≤ span.first.col }
     ensures { result ≡ record span { first = within span.first } }

@@ -1,4 +1,4 @@
-//! Half of a set of squares of a level: those of 64 columns, in bit rows.
+//! Half of a set of squares of a level: 64 columns, in bit rows.
 
 ghost use Rattle.std.specs.Prelude.{ℕ, ◌≡◌, ◌<◌, ◌≤◌, ◌+◌, ◌↔◌, ◌⊎◌, IfSome, MatchOption, IsTrue, false};
 ghost use Rattle.std.specs.Int.{bit_at};
@@ -17,15 +17,15 @@ use sok_board::spans::Span;
 use sok_rules::cell::Spot;
 use std::marker::Model;
 
-/// How many columns a half has: the bits of a row's word.
+/// The number of columns of a half: the bits of a row's word.
 pub(crate) const COLUMNS: u32 = 64;
 
-/// Half of a set of squares, a word for each row and a bit for each column. It is seen as its words,
-/// which the test `has` reads. It takes no memory.
+/// Half of a set of squares: a word for each row, and a bit for each column. The contracts see it
+/// as its words, which the test `has` reads. It allocates nothing.
 #[derive(Drop)]
 pub(crate) struct Half {
     rows: [u64; ROWS],
-    /// No square lies in a row from here on, so that a flood goes over the rows before alone.
+    /// No square lies in this row or a later one, so a flood visits only the rows before it.
     height: usize,
 }
 
@@ -41,7 +41,7 @@ impl Model for Half {
 }
 
 impl Half {
-    /// One with no square.
+    /// Returns an empty half.
     pub(crate) fn new() -> Half
         ensures { (s : Spot) → has result s ≡ false }
     {
@@ -51,14 +51,14 @@ impl Half {
         }
     }
 
-    /// Whether it has no square, where that is known.
+    /// Returns true only if it has no square. False says nothing.
     pub(crate) fn is_blank(&self) -> bool
         ensures { IsTrue result → (s : Spot) → has self.now s ≡ false }
     {
         self.height == 0
     }
 
-    /// Whether it has a square.
+    /// Returns whether it has a square.
     pub(crate) fn has(&self, spot: Spot) -> bool
         requires { spot.col < COLUMNS }
         ensures { result ≡ has self.now spot }
@@ -66,7 +66,7 @@ impl Half {
         bits::has(&self.rows, spot)
     }
 
-    /// Puts a square in.
+    /// Puts a square into it.
     pub(crate) fn put(&mut self, spot: Spot)
         requires row { spot.row < ROWS }
         requires col { spot.col < COLUMNS }
@@ -76,7 +76,7 @@ impl Half {
         self.height = self.height.max(spot.row as usize + 1);
     }
 
-    /// Puts the squares of a span in.
+    /// Puts the squares of a span into it.
     pub(crate) fn put_span(&mut self, span: Span)
         requires some { 0 < span.length }
         requires row { span.first.row < ROWS }
@@ -87,7 +87,7 @@ impl Half {
         self.height = self.height.max(span.first.row as usize + 1);
     }
 
-    /// The squares of a span that it has, the leftmost one as the lowest bit.
+    /// Returns the squares of a span that it has, the leftmost one as the lowest bit.
     pub(crate) fn cut(&self, span: Span) -> u64
         requires some { 0 < span.length }
         requires row { span.first.row < ROWS }
@@ -98,7 +98,7 @@ impl Half {
         spans::cut(&self.rows, span)
     }
 
-    /// Takes a square out.
+    /// Removes a square from it.
     pub(crate) fn take(&mut self, spot: Spot)
         requires row { spot.row < ROWS }
         requires col { spot.col < COLUMNS }
@@ -108,7 +108,7 @@ impl Half {
         bits::take(&mut self.rows, spot);
     }
 
-    /// Gives it the squares of another.
+    /// Replaces its squares with those of another half.
     pub(crate) fn copy_from(&mut self, other: &Half)
         ensures { self.new ≡ other.now }
     {
@@ -117,7 +117,7 @@ impl Half {
         self.height = other.height;
     }
 
-    /// The first square, row by row and from left to right.
+    /// Returns the first square, row by row and from left to right.
     pub(crate) fn first(&self) -> Option<Spot>
         ensures first { MatchOption result
             ((s : Spot) → has self.now s ≡ false) (IsFirstSquare (has self.now)) }
@@ -126,7 +126,7 @@ impl Half {
         bits::first(&self.rows[..self.height])
     }
 
-    /// Takes all squares out. The rows from its height on have none.
+    /// Removes all squares. The rows from `height` on have none.
     pub(crate) fn clear(&mut self)
         ensures { (s : Spot) → has self.new s ≡ false }
     {
@@ -134,7 +134,8 @@ impl Half {
         self.height = 0;
     }
 
-    /// Gives it the squares that are joined to one over free squares of this half, itself among them.
+    /// Replaces its squares with those that are joined to `from` over free squares of this half,
+    /// itself among them.
     pub(crate) fn flood(&mut self, free: &Half, from: Spot)
         requires { IsTrue (has free.now from) }
         ensures joined { (s : Spot) → IsTrue (has self.new s) ↔ Joined (has free.now) from s }
@@ -147,8 +148,9 @@ impl Half {
     }
 }
 
-/// Gives two halves the squares that are joined to one over free squares of both, itself among them.
-/// It stands apart, so that a flood over one half has no room for the rounds over both to clear.
+/// Replaces the squares of two halves with those that are joined to `from` over free squares of
+/// both, itself among them. It is a function of its own, so that a flood over one half has no
+/// buffers for rounds over both to clear.
 #[cold]
 pub(crate) fn flood_both(
     low: &mut Half,

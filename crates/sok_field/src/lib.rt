@@ -2,17 +2,17 @@
 //!
 //! | Module | What it holds |
 //! |---|---|
-//! | `bits` | one square of bit rows |
-//! | `crossing` | the squares that are joined to one over both halves of a set (private) |
+//! | `bits` | single squares of bit rows (private) |
+//! | `crossing` | the flood over both halves of a set (private) |
 //! | `drawing` | squares of a board in bit rows |
-//! | `field` | sets of squares of a level in bit rows |
-//! | `flood` | the squares that are joined to some within one half (private) |
+//! | `field` | sets of squares of a level, in bit rows |
+//! | `flood` | the flood within one half (private) |
 //! | `half` | half of a set: 64 columns in bit rows (private) |
-//! | `law` | bit rows and the numbers of a board |
+//! | `law` | bit rows and the numbers of a board's squares |
 //! | `numbers` | sets of squares as bits by number |
-//! | `spans` | squares that lie side by side, as bits of a word |
-//! | `spread` | a round: the squares beside those of a set, all rows at once |
-//! | `sweep` | sweeps, by which a flood comes along rows and from row to row |
+//! | `spans` | squares side by side, as bits of a word (private) |
+//! | `spread` | rounds: a round adds the squares beside those of a set, in all rows at once |
+//! | `sweep` | sweeps, by which a flood proceeds along rows and from row to row (private) |
 #![tactic(auto)]
 
 mod bits;

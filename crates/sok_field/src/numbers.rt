@@ -1,4 +1,4 @@
-//! Sets of squares as bits by number: a square's bit is that of its number, in words of 64.
+//! Sets of squares as bits by number, in words of 64 bits.
 
 ghost use Rattle.std.specs.Prelude.{ℕ, ◌≡◌, ◌<◌, ◌≤◌, ◌*◌, ◌↔◌, ◌⊎◌, IsTrue, MatchOption, false};
 ghost use Rattle.std.specs.Prelude.{length};
@@ -13,10 +13,10 @@ use sok_board::area::Sq;
 use sok_board::board::Board;
 use sok_rules::cell::Spot;
 
-/// How many words have a bit for each square of an area.
+/// The number of words that have a bit for each square of an area.
 pub const WORDS: usize = 64;
 
-/// Where the bit of a number stands: a word, and a bit of it.
+/// Returns where the bit of a number is: a word, and a bit of it.
 fn bit_of(square: Sq) -> Spot
     ensures { result ≡ bit_of_number square }
 {
@@ -26,7 +26,7 @@ fn bit_of(square: Sq) -> Spot
     }
 }
 
-/// Whether a square is of a set. It is none past the words.
+/// Returns whether a square is in a set. A square past the words is in none.
 pub fn has(words: &[u64], square: Sq) -> bool
     ensures { result ≡ has_number words.now square }
 {
@@ -42,7 +42,7 @@ pub fn put(words: &mut [u64], square: Sq)
     bits::put(words, bit_of(square));
 }
 
-/// Takes a square out of a set.
+/// Removes a square from a set.
 pub fn take(words: &mut [u64], square: Sq)
     requires { square < 64 * length words.old }
     ensures { (n : ℕ) → IsTrue (has_number words.new n)
@@ -51,7 +51,7 @@ pub fn take(words: &mut [u64], square: Sq)
     bits::take(words, bit_of(square));
 }
 
-/// The square with the least number.
+/// Returns the square with the least number.
 pub fn first(words: &[u64]) -> Option<Sq>
     requires { length words.now ≤ WORDS }
     ensures { MatchOption result
@@ -63,7 +63,7 @@ pub fn first(words: &[u64]) -> Option<Sq>
     }
 }
 
-/// Makes words the squares of a set that have numbers.
+/// Overwrites `words` with the squares of a set that have numbers.
 pub fn write(words: &mut [u64], set: &Field, board: &Board)
     requires { length board.now.area ≤ 64 * length words.old }
     ensures { (n : ℕ) → IsTrue (has_number words.new n)

@@ -1,4 +1,4 @@
-//! Squares that lie side by side, as bits of a word.
+//! Spans: squares side by side, as bits of a word.
 
 ghost use Rattle.std.specs.Prelude.{ℕ, ◌≡◌, ◌<◌, ◌≤◌, ◌+◌, ◌*◌, ◌↔◌, ◌⊎◌, true, length};
 ghost use Rattle.std.specs.Int.{bit_at};
@@ -11,7 +11,7 @@ ghost use Rattle.sok_field.specs.Spans.{IsPut, LiesOn, StandsIn};
 use sok_board::area::Sq;
 use sok_board::spans::Span;
 
-/// A word of so many bits, from the lowest on.
+/// Returns a word whose lowest `length` bits are set.
 fn ones(length: u32) -> u64
     requires some { 0 < length }
     requires within { length ≤ 64 }
@@ -20,7 +20,7 @@ fn ones(length: u32) -> u64
     u64::MAX >> (64 - length)
 }
 
-/// Puts the bits of a word into a row.
+/// Adds the bits of a word to a row.
 fn join(rows: &mut [u64], row: usize, word: u64)
     requires { row < length rows.old }
     ensures { (s : Spot)
@@ -44,7 +44,7 @@ pub(crate) fn put_span(rows: &mut [u64], span: Span)
     );
 }
 
-/// The squares of a span that are of a set, the leftmost one as the lowest bit.
+/// Returns the squares of a span that are in a set, the leftmost one as the lowest bit.
 pub(crate) fn cut(rows: &[u64], span: Span) -> u64
     requires some { 0 < span.length }
     requires row { span.first.row < length rows.now }
@@ -55,7 +55,7 @@ pub(crate) fn cut(rows: &[u64], span: Span) -> u64
     (rows[span.first.row as usize] >> span.first.col) & ones(span.length)
 }
 
-/// Puts the bits of a word into words of numbers, from a number on.
+/// Adds the bits of a word to words of bits by number, from a number on.
 pub(crate) fn put_word(words: &mut [u64], word: u64, number: Sq)
     requires number { number < 64 * length words.old }
     requires fits { (n : ℕ) → IsPut word number n → n < 64 * length words.old }

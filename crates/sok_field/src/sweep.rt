@@ -1,4 +1,4 @@
-//! Sweeps, by which a flood comes along rows and from row to row.
+//! Sweeps, by which a flood proceeds along rows and from row to row.
 
 ghost use Rattle.std.specs.Prelude.{◌≡◌, ◌+◌, ◌<◌, ◌⊎◌, Bool, true, false, length, slice_index, bit_and};
 ghost use Rattle.sok_rules.specs.declared.cell.Spot.{Spot};
@@ -7,7 +7,7 @@ ghost use Rattle.sok_field.specs.Floods.{IsSpreading};
 ghost use Rattle.sok_field.specs.Rounds.{above};
 ghost use Rattle.sok_field.specs.Sweeps.{IsStepped, GoesOn};
 
-/// The squares of a row that are joined to seeds within the row.
+/// Returns the squares of a row that are joined to `seeds` within the row.
 fn stepped(seeds: u64, free: u64) -> u64
     requires { bit_and seeds free ≡ seeds }
     ensures { IsStepped free seeds result }
@@ -22,7 +22,7 @@ fn stepped(seeds: u64, free: u64) -> u64
     }
 }
 
-/// Has a row meet what is joined within it to its squares.
+/// Adds to a row what is joined to its squares within the row.
 pub(crate) fn step_row(free: &[u64], seen: &mut [u64], r: usize)
     requires row { r < length seen.old }
     requires whole { length free.now ≡ length seen.old }
@@ -34,8 +34,8 @@ pub(crate) fn step_row(free: &[u64], seen: &mut [u64], r: usize)
     seen[r] = stepped(seen[r], free[r]);
 }
 
-/// Has a row meet the squares beside those of a row beside it, and what is joined to them within
-/// the row. Tells the row, and whether it has met any.
+/// Adds to a row the free squares beside those of a neighbouring row, and what is joined to them
+/// within the row. Returns the row, and whether any were added.
 fn meet_row(free: &[u64], seen: &mut [u64], r: usize, beside: u64) -> (u64, bool)
     requires row { r < length seen.old }
     requires whole { length free.now ≡ length seen.old }
@@ -55,8 +55,8 @@ fn meet_row(free: &[u64], seen: &mut [u64], r: usize, beside: u64) -> (u64, bool
     (word, true)
 }
 
-/// Has some rows, those that have a square in some columns, meet what is joined within each to its
-/// squares.
+/// Adds to some rows, those that have a square in `columns`, what is joined to their squares within
+/// each row.
 pub(crate) fn step_rows(free: &[u64], seen: &mut [u64], first: usize, last: usize, columns: u64)
     requires last { last < length seen.old }
     requires whole { length free.now ≡ length seen.old }
@@ -71,7 +71,8 @@ pub(crate) fn step_rows(free: &[u64], seen: &mut [u64], first: usize, last: usiz
     }
 }
 
-/// Goes down from a row to another one at least, and on as far as squares are met. Tells the last row.
+/// Sweeps down from row `low` at least to row `high`, and on as long as rows grow. Returns the last
+/// row.
 pub(crate) fn sweep_down(free: &[u64], seen: &mut [u64], low: usize, high: usize) -> usize
     requires row { low < length seen.old }
     requires whole { length free.now ≡ length seen.old }
@@ -92,8 +93,8 @@ pub(crate) fn sweep_down(free: &[u64], seen: &mut [u64], low: usize, high: usize
     r
 }
 
-/// Goes up from a row to another one at least, and on as far as squares are met. Tells the last row,
-/// and whether any were met.
+/// Sweeps up from row `high` at least to row `low`, and on as long as rows grow. Returns the last
+/// row, and whether any row grew.
 pub(crate) fn sweep_up(free: &[u64], seen: &mut [u64], high: usize, low: usize) -> (usize, bool)
     requires row { high < length seen.old }
     requires whole { length free.now ≡ length seen.old }

@@ -9,12 +9,12 @@ use Rattle.sok_engine.specs.Written.{AnswersOf}
 abbrev pub OfFile : {A : Type 0} → (Option (List ℕ) → Type 0) → (List ℕ → AnswersOf A) → AnswersOf A
 OfFile reads P answer = (known : Option (List ℕ)) × reads known × OfReader known P answer
 
--- the answers to the bytes of two, of which the second has a text
+-- The answers to the bytes of two opened files. The second holds `text`, which is all of its bytes if these are known.
 abbrev pub OfFiles : {A : Type 0} → (Option (List ℕ) → Type 0) → (Option (List ℕ) → Type 0) → (List ℕ → List ℕ → AnswersOf A) → AnswersOf A
 OfFiles reads reads_text P answer =
     (known : Option (List ℕ)) × reads_text known × (text : List ℕ) × IfSome known (λ all. text ≡ all) × OfFile reads (P text) answer
 
--- these are the bytes of a file that was made: when it was made, and at the end
+-- the bytes of a file that was made: when it was made, and at the end
 abbrev pub IsMade : {O : Type 0} → (O → Option (List ℕ)) → (O → Type 0) → Bytes → Type 0
 IsMade {O} contents makes bytes = (file : O) × (after : O) × makes file × (bytes ≡ record { old = contents file; new = contents after })
 
@@ -22,22 +22,22 @@ IsMade {O} contents makes bytes = (file : O) × (after : O) × makes file × (by
 abbrev pub cert_path : List ℕ → ℤ → List ℕ
 cert_path folder id = folder ++ (codes "/" ++ (signed_decimal id ++ codes ".cert"))
 
--- What is known of the files at all paths, where one that is made there is an M.
+-- What is known of the files at all paths. A file that is made there is an `M`.
 pub record Files (M : Type 0) : Type 1 where
   -- a file that is opened at this path may have these bytes left, as far as they are known
   pub reads : List ℕ → Option (List ℕ) → Type 0
   -- there may be no file at this path that can be opened
   pub lacks : List ℕ → Type 0
-  -- this may be the one that is made at this path
+  -- this may be the file that is made at this path
   pub makes : List ℕ → M → Type 0
-  -- no whole certificate stood at this path
+  -- there was no whole certificate at this path
   pub lacks_certificate : List ℕ → Type 0
   -- there may be no folder at this path in which files can be made
   pub lacks_folder : List ℕ → Type 0
   -- the file at this path may be made, emptied or removed
   pub may_make : List ℕ → Type 0
 
--- nothing is known of them, and each may be made
+-- nothing is known of the files, and each may be made, emptied or removed
 abbrev pub unknown_files : {M : Type 0} → Files M
 unknown_files = record {
   reads = λ path known. ⊤;
@@ -48,7 +48,7 @@ unknown_files = record {
   may_make = λ path. ⊤;
 }
 
--- the same files, where what is made is looked at in another way
+-- the same files, with another view of those that are made
 abbrev pub with_makes : {M N : Type 0} → Files M → (List ℕ → N → Type 0) → Files N
 with_makes files makes = record {
   reads = files.reads;
@@ -59,7 +59,7 @@ with_makes files makes = record {
   may_make = files.may_make;
 }
 
--- of those that are made, by their bytes
+-- the same files, with those that are made seen by their bytes
 abbrev pub files_by : {O : Type 0} → (O → Option (List ℕ)) → Files O → Files Bytes
 files_by contents files = with_makes files (λ path. IsMade contents (files.makes path))
 

@@ -1,4 +1,4 @@
--- Words of public contracts: how the program ends (Endings), what is known of its files (Files), and what becomes of a certificate (Solving).
+-- Words of public contracts: how the program ends (Endings), what is known of its files (Files), and what is written when a level is solved (Solving).
 pub mod Endings
 pub mod Files
 pub mod Solving

@@ -1,4 +1,4 @@
--- What an output holds after a call that opens a file and solves a level of it, with a certificate in another file, or alone.
+-- What an output holds after a call that opens a file and solves a level of it, with a certificate in another file or without one.
 use Rattle.std.specs.Prelude.{ℕ, ◌≡◌, ◌≢◌, ◌⊎◌, Bool, List, Option, Some, None, Result, Err}
 use Rattle.sok_engine.specs.declared.fault.ToolFault.{ToolFault}
 use Rattle.sok_engine.specs.declared.fault.ToolFault.TheVariants as tool
@@ -10,26 +10,26 @@ use Rattle.sok_solve.specs.Improves.{IsCertifiedImprove, IsImprove, up_to_claim}
 use Rattle.sok_solve.specs.Solves.{IsFind, IsSolve}
 use Rattle.sok_files.specs.Files.{OfFile}
 
--- it did not begin: memory was refused, or a file can't be opened or may not be made
+-- the call did not begin: memory was refused, a file can't be opened, or one may not be made
 abbrev pub IsUnbegun : Result ℕ ToolFault → Type 0
 IsUnbegun result = (result ≡ Err tool.Memory) ⊎ (result ≡ Err tool.ReadFailed) ⊎ (result ≡ Err tool.WriteFailed)
 
--- One of the answers is written to the output, behind its certificate to such a writer. Or nothing is written, since it did not begin.
+-- One of the answers is written to the output, after its certificate was written to such a writer. Or nothing is written, since the call did not begin.
 abbrev pub SolvesTo : CertifiedAnswers → (Bytes → Type 0) → Bytes → Result ℕ ToolFault → Type 0
 SolvesTo P IsPlace out result = (IsUnbegun result × Stays out) ⊎ ((cert : Bytes) × IsPlace cert × WritesBoth P cert out result)
 
--- a level is solved, beside none or with fewer pushes than these, alone
+-- a level is solved without a certificate: with the fewest pushes, or with fewer than a number that is given
 abbrev pub FindsBelow : ℕ → Option ℕ → ℕ → Bool → List ℕ → Answers
 FindsBelow n None limit bound = IsFind n limit bound
 FindsBelow n (Some best) limit bound = IsImprove n limit (up_to_claim best) bound
 
--- and with a certificate
+-- the same with a certificate
 abbrev pub SolvesBelow : ℕ → Option ℕ → ℕ → Bool → List ℕ → CertifiedAnswers
 SolvesBelow n None limit bound = IsSolve n limit bound
 SolvesBelow n (Some best) limit bound = IsCertifiedImprove n limit (up_to_claim best) bound
 
--- A level of a file is solved within a limit, with fewer pushes than these, if they are given, with a bound where the limit is met, or without. With a path,
--- which is another than the file's, the certificate goes to the file that is made there; with none there is no certificate.
+-- A level of a file is solved within a limit: with fewer pushes than `below`, if that is given. With `bound`, an answer at the limit has a lower bound. If a
+-- path is given, which is another one than the file's, the certificate goes to the file that is made there. Otherwise there is no certificate.
 abbrev pub SolvesLevel : List ℕ → (Option (List ℕ) → Type 0) → (List ℕ → Bytes → Type 0) → ℕ → Option ℕ → ℕ → Bool → Option (List ℕ) → Bytes → Result ℕ ToolFault
     → Type 0
 SolvesLevel file reads makes n below limit bound (Some path) out result =

@@ -1,5 +1,5 @@
-//! Each command on its files, which are opened, or made, in the order in which the words name them,
-//! before anything is read.
+//! Each command on its files. The files are opened or made in the order in which the words name
+//! them, before anything is read.
 
 ghost use Rattle.std.specs.Prelude.{◌≡◌, ◌≢◌, IfSome, option_map, string_bytes};
 ghost use Rattle.sok_engine.specs.Certified.{WritesBoth};
@@ -56,7 +56,7 @@ pub fn replay<F: Folder + AllocGlobal, W: Write>(
     replay_bytes(rt.alloc(), &mut input, n as usize, text, out)
 }
 
-/// Draws the n-th level of a collection as it stands after a text of letters.
+/// Draws the n-th level of a collection after a text of letters was played.
 pub fn draw<F: Folder + AllocGlobal, W: Write>(
     rt: &F,
     path: &str,
@@ -71,8 +71,8 @@ pub fn draw<F: Folder + AllocGlobal, W: Write>(
     draw_bytes(rt.alloc(), &mut input, n as usize, text, out)
 }
 
-/// Judges a certificate for the n-th level of a collection. It is read only where the level has a
-/// board.
+/// Judges a certificate for the n-th level of a collection. The certificate is read only if the
+/// level has a board.
 pub fn check<F: Folder + AllocGlobal, W: Write>(
     rt: &F,
     path: &str,
@@ -89,9 +89,9 @@ pub fn check<F: Folder + AllocGlobal, W: Write>(
     check_bytes(rt.alloc(), &mut input, n as usize, &mut cert_input, out)
 }
 
-/// Solves the n-th level of a collection, with fewer pushes than `below` where that is given. The
-/// certificate is written to a file, if a path is given; else none is made. That file holds nothing
-/// yet, or a certificate, and is not the collection's.
+/// Solves the n-th level of a collection, with fewer pushes than `below` if that is given. If
+/// `cert_path` is given, the certificate is written to that file, which is new, empty or holds a
+/// certificate, and is not the collection's. Otherwise no certificate is made.
 pub fn solve<F: Folder + AllocGlobal, W: Write>(
     rt: &F,
     path: &str,
@@ -116,7 +116,7 @@ pub fn solve<F: Folder + AllocGlobal, W: Write>(
     }
 }
 
-/// Solves a level, and makes no certificate.
+/// Solves a level without making a certificate.
 fn find<F: Folder + AllocGlobal, W: Write>(
     rt: &F,
     path: &str,
@@ -134,7 +134,7 @@ fn find<F: Folder + AllocGlobal, W: Write>(
     find_below(rt.alloc(), &mut input, n as usize, below, limit, bound, out)
 }
 
-/// The same of an input.
+/// Solves a level of an input without making a certificate.
 fn find_below<R: Read, W: Write>(
     alloc: Global,
     input: &mut R,
@@ -153,7 +153,7 @@ fn find_below<R: Read, W: Write>(
     }
 }
 
-/// Solves a level, and writes the certificate to a file that is made for it.
+/// Solves a level and writes the certificate to a file that is made for it.
 fn solve_with_file<F: Folder + AllocGlobal, W: Write>(
     rt: &F,
     path: &str,
@@ -185,7 +185,7 @@ fn solve_with_file<F: Folder + AllocGlobal, W: Write>(
     )
 }
 
-/// The same of an input and an output for the certificate.
+/// Solves a level of an input and writes the certificate to `cert_out`.
 fn solve_below<R: Read, W: Write, C: Write>(
     alloc: Global,
     input: &mut R,

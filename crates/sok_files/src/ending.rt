@@ -1,4 +1,4 @@
-//! How a run ends, and what it tells on the error stream.
+//! The exit status of a run, and what it writes to the error stream.
 
 ghost use Rattle.std.specs.Prelude.{◌≡◌, ◌≢◌, Err, Ok, string_bytes};
 ghost use Rattle.std.specs.Io.KnownBytes.{Keeps};
@@ -12,8 +12,8 @@ use sok_words::job::JobRefused;
 use std::fmt::{InlineText, Write as _};
 use std::io::Write;
 
-/// The exit status for an outcome. A fault is told as one line, as far as the error stream takes
-/// it.
+/// Returns the exit status of an outcome. A fault is written to `err` as one line, as far as the
+/// stream takes it.
 pub fn ended<E: Write>(outcome: Result<u8, ToolFault>, err: &mut E) -> u8
     ensures { Ends outcome (E.contents err.old) (E.contents err.new) result }
 {
@@ -26,19 +26,19 @@ pub fn ended<E: Write>(outcome: Result<u8, ToolFault>, err: &mut E) -> u8
     }
 }
 
-/// Tells a fault in its line, by one write where the stream takes it whole.
+/// Writes the line of a fault, by one write if the stream takes it whole.
 fn tell<E: Write>(fault: ToolFault, err: &mut E)
     ensures { AppendsUpTo (E.contents err.old) (E.contents err.new) (fault_line fault) }
 {
-    // the longest line has 42 bytes
+    // The longest line has 42 bytes.
     let mut line = InlineText::<64>::new();
     if line.writeln(fault).is_ok() {
         let _ = write_whole(err, line.as_str().as_bytes());
     }
 }
 
-/// The exit status for words that ask for nothing. Help that was asked for is written to the
-/// output, and what is wrong with the words to the error stream, as far as that takes it.
+/// Returns the exit status for words that name no job. Help that was asked for is written to `out`.
+/// What is wrong with the words is written to `err`, as far as the stream takes it.
 pub fn refused<W: Write, E: Write>(refusal: JobRefused, out: &mut W, err: &mut E) -> u8
     ensures help { refusal.status ≡ 0
         → Runs (λ answer. answer ≡ Ok (record { text = string_bytes refusal.text; status = 0 }))

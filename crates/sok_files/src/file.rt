@@ -7,7 +7,7 @@ use crate::folder::Folder;
 use crate::own::Own;
 use sok_engine::fault::ToolFault;
 
-/// Opens a file that is there.
+/// Opens a file that exists. Errors: `ReadFailed` if it can't be opened.
 pub fn open<F: Folder>(folder: &F, path: &str) -> Result<F::Input, ToolFault>
     ensures opened { MatchResult result
         (λ file. (F.files folder.now).reads path.now (F.Input.remaining file))
@@ -20,8 +20,8 @@ pub fn open<F: Folder>(folder: &F, path: &str) -> Result<F::Input, ToolFault>
     }
 }
 
-/// Makes a file for a certificate, or empties the one that is there, if that holds one and is not the
-/// run's own.
+/// Makes a file for a certificate, or empties the one at `path`. Errors: `WriteFailed` if that
+/// can't be done, if the file holds anything but a certificate, or if it is the run's own.
 pub fn create<F: Folder>(folder: &F, path: &str, own: &Own<'_>) -> Result<F::Output, ToolFault>
     requires { (F.files folder.now).may_make path.now }
     ensures made { MatchResult result

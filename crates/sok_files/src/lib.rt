@@ -1,16 +1,16 @@
-//! The commands on files: each opens what it names, and hands it to its engine; and how a run of
+//! The commands on files. Each opens or makes its files and calls its engine. Also how a run of
 //! the program ends.
 //!
 //! | Module | What it holds |
 //! |---|---|
 //! | `command` | each command on its files |
-//! | `ending` | how a run ends, and what it tells on the error stream |
+//! | `ending` | the exit status of a run, and what it writes to the error stream |
 //! | `file` | opening and making the files that a command names |
 //! | `folder` | files by their paths |
-//! | `machine` | those of the machine (private) |
-//! | `notes` | what is told beside the answer |
+//! | `machine` | the files of the machine (private) |
+//! | `notes` | what is reported beside the answer |
 //! | `own` | the file that a run has open beside its certificates |
-//! | `watched` | files and streams that are watched |
+//! | `watched` | files and streams whose failures and reads are noted |
 #![tactic(auto)]
 
 pub mod command;

@@ -1,4 +1,4 @@
-//! The files of the machine: how one is opened to be read, and how one is made for a certificate.
+//! The files of the machine: opening one to read it, and making one for a certificate.
 
 use crate::own::Own;
 use std::fs::{self, File, Metadata, OpenOptions};
@@ -6,21 +6,22 @@ use std::io::{self, ErrorKind, Read};
 use std::os::fd::AsRawFd;
 use std::os::unix::fs::{FileExt, FileTypeExt, MetadataExt};
 
-/// What each certificate begins with.
+/// The first bytes of each certificate.
 const FRONT: [u8; 19] = *b"sokoban-certificate";
 
-/// Opens what is read at a path: a file that is there, or the standard input for `-`.
+/// Opens a file that exists, or the standard input for the path `-`.
 pub(crate) fn opened(rt: &HostRuntime, path: &str) -> io::Result<File> {
     above_streams(fs::open(rt, machine_path(path))?)
 }
 
-/// The machine's path of what is read at a path.
+/// Returns the machine's path for a path that is read.
 fn machine_path(path: &str) -> &str {
     if path == "-" { "/dev/stdin" } else { path }
 }
 
-/// A file with a number above those of the standard streams. Where one of these was closed when the
-/// program started, a file gets its number, and what is meant for the stream would go to the file.
+/// Returns the file with a descriptor above those of the standard streams. If one of these was
+/// closed when the program started, a file may get its number, and output for the stream would go
+/// to the file.
 fn above_streams(file: File) -> io::Result<File> {
     if file.as_raw_fd() <= 2 {
         return file.try_clone();
@@ -28,14 +29,15 @@ fn above_streams(file: File) -> io::Result<File> {
     Ok(file)
 }
 
-/// Makes a file for a certificate, or empties the one that is there. Refused, before it is opened to
-/// be written, is one that holds anything but a certificate, and the run's own, by whatever name.
+/// Makes a file for a certificate, or empties the one at `path`. Refuses a file that holds anything
+/// but a certificate, and the run's own under any name, before it is opened for writing.
 pub(crate) fn for_certificate(rt: &HostRuntime, path: &str, own: &Own<'_>) -> io::Result<File> {
     match fs::metadata(rt, path) {
         Ok(found) if found.is_file() => emptied(rt, path, own),
-        // A disk keeps more than a certificate.
+        // A disk holds more than a certificate.
         Ok(found) if found.file_type().is_block_device() => Err(no_certificate()),
-        // What else is no file keeps nothing, and a folder is refused.
+        // Anything else that is no regular file keeps nothing. A folder can't be opened for
+        // writing.
         Ok(_) => above_streams(to_write().open(rt, path)?),
         Err(error) if error.kind() == ErrorKind::NotFound => made(rt, path),
         Err(error) => Err(error),
@@ -48,17 +50,17 @@ fn to_write() -> OpenOptions {
     options
 }
 
-/// Makes a file that is not there, also where a link leads to.
+/// Makes a file that does not exist yet. If the path is a link, the file is made where it leads.
 fn made(rt: &HostRuntime, path: &str) -> io::Result<File> {
     let file = above_streams(to_write().create(true).open(rt, path)?)?;
-    // Where another process has made it meanwhile, it is not emptied.
+    // If another process has made the file meanwhile, it is not emptied.
     if file.metadata()?.len() > 0 {
         return Err(no_certificate());
     }
     Ok(file)
 }
 
-/// Empties a file that holds a certificate, or nothing.
+/// Empties a file that holds a certificate or nothing.
 fn emptied(rt: &HostRuntime, path: &str, own: &Own<'_>) -> io::Result<File> {
     let mut there = fs::open(rt, path)?;
     let found = there.metadata()?;
@@ -76,7 +78,7 @@ fn emptied(rt: &HostRuntime, path: &str, own: &Own<'_>) -> io::Result<File> {
     Ok(file)
 }
 
-/// Empties a file that was made at a path, and takes it away if it is there still, and not behind a link.
+/// Empties the file that was made at `path`. Removes it if it is still there and not behind a link.
 pub(crate) fn remove(rt: &HostRuntime, path: &str, file: &File) {
     let _ = file.set_len(0);
     let (Ok(made), Ok(there)) = (file.metadata(), fs::symlink_metadata(rt, path)) else {
@@ -91,19 +93,19 @@ fn no_certificate() -> io::Error {
     io::Error::other("no certificate stands in this file")
 }
 
-/// Whether a file is empty or begins as a certificate.
+/// Returns whether a file is empty or begins like a certificate.
 fn begins_as_certificate(file: &mut File) -> io::Result<bool> {
     let mut front = [0; 19];
     let count = file.read(&mut front)?;
     Ok(count == 0 || front == FRONT)
 }
 
-/// Whether two are one file.
+/// Returns whether both are the same file.
 fn are_one(one: &Metadata, other: &Metadata) -> bool {
     one.dev() == other.dev() && one.ino() == other.ino()
 }
 
-/// Whether a file is the one at a path, if there is one.
+/// Returns whether a file is the one at `path`, if there is one.
 fn is_at(rt: &HostRuntime, found: &Metadata, path: &str) -> bool {
     match fs::metadata(rt, path) {
         Ok(other) => are_one(found, &other),
@@ -111,7 +113,7 @@ fn is_at(rt: &HostRuntime, found: &Metadata, path: &str) -> bool {
     }
 }
 
-/// Whether a file is the run's own, or the log beside that.
+/// Returns whether a file is the run's own, or the log (`-wal`) beside that.
 fn is_own(rt: &HostRuntime, found: &Metadata, own: &Own<'_>) -> io::Result<bool> {
     let path = machine_path(own.path);
     if is_at(rt, found, path) {
@@ -126,8 +128,8 @@ fn is_own(rt: &HostRuntime, found: &Metadata, own: &Own<'_>) -> io::Result<bool>
     }
 }
 
-/// Whether a whole certificate stands at a path: a file that begins as one, the last line of which is
-/// `end`.
+/// Returns whether there is a whole certificate at `path`: a file that begins like a certificate
+/// and whose last line is `end`.
 pub(crate) fn has_whole_certificate(rt: &HostRuntime, path: &str) -> io::Result<bool> {
     let found = match fs::metadata(rt, path) {
         Ok(found) => found,
@@ -141,7 +143,7 @@ pub(crate) fn has_whole_certificate(rt: &HostRuntime, path: &str) -> io::Result<
     Ok(begins_as_certificate(&mut file)? && ends_whole(&file, found.len())?)
 }
 
-/// Whether the last line of a file of so many bytes is `end`.
+/// Returns whether the last line of a file of `length` bytes is `end`.
 fn ends_whole(file: &File, length: u64) -> io::Result<bool> {
     let mut tail = [0; 6];
     let count = file.read_at(&mut tail, length.saturating_sub(6))?;
@@ -149,8 +151,8 @@ fn ends_whole(file: &File, length: u64) -> io::Result<bool> {
     Ok(tail.ends_with(b"\nend") || tail.ends_with(b"\nend\n") || tail.ends_with(b"\nend\r\n"))
 }
 
-/// Refuses what is no folder, and one in which no file can be made. That is seen by making one that no
-/// level has, if it is not there, and taking it away again.
+/// Checks that `path` is a folder in which files can be made. For that it makes a file with a name
+/// that no level has, and removes it, unless that file exists already.
 pub(crate) fn try_folder(rt: &HostRuntime, path: &str) -> io::Result<()> {
     if !fs::metadata(rt, path)?.is_dir() {
         return Err(io::Error::from(ErrorKind::NotADirectory));

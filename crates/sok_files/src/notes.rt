@@ -1,5 +1,5 @@
-//! What is told beside the answer of a command: what failed, and which lines that were read are
-//! nearly of a board. It is noted while the command runs, and told when it has ended.
+//! What is reported beside the answer of a command: what failed, and which lines of the input are
+//! almost lines of a board. It is noted while the command runs and reported when it has ended.
 
 use sok_engine::output::write_whole;
 use sok_near::near::NearLine;
@@ -10,11 +10,11 @@ use std::fs;
 use std::io::{self, Write};
 use std::os::unix::fs::MetadataExt;
 
-/// The path of a file, or the name of a stream, as it is told: of one with more than 1,000 bytes the
-/// front, and three dots.
+/// The path of a file, or the name of a stream, as it is reported. If it has more than 1,000 bytes,
+/// it is cut and ends with three dots.
 pub type Name = InlineText<1000>;
 
-/// What failed, and why, where that is known.
+/// What failed, and the reason if it is known.
 #[derive(Clone, Copy)]
 struct Failure {
     name: Name,
@@ -32,7 +32,7 @@ impl fmt::Display for Failure {
     }
 }
 
-/// A file that was opened, by its path, its device and its number.
+/// A file that was opened: its path, its device and its inode number.
 #[derive(Drop)]
 pub struct OpenedFile {
     path: String,
@@ -41,7 +41,7 @@ pub struct OpenedFile {
 }
 
 impl OpenedFile {
-    /// The file that is at a path.
+    /// Returns the file at a path.
     pub fn at(rt: &HostRuntime, path: &str) -> io::Result<OpenedFile> {
         let found = fs::metadata(rt, path)?;
         Ok(OpenedFile {
@@ -51,7 +51,7 @@ impl OpenedFile {
         })
     }
 
-    /// Whether its path leads to it.
+    /// Returns whether the path still leads to the file.
     fn is_there(&self, rt: &HostRuntime) -> io::Result<bool> {
         let found = fs::metadata(rt, self.path.as_str())?;
         Ok(found.dev() == self.device && found.ino() == self.number)
@@ -62,7 +62,7 @@ impl OpenedFile {
 #[derive(Drop)]
 pub struct Notes {
     failure: Cell<Option<Failure>>,
-    /// Whether the text that is read is no collection, once it has begun.
+    /// Whether the text that is read is a certificate. `None` until its first bytes are read.
     is_other: Cell<Option<bool>>,
     near: RefCell<NearScan>,
     /// The file that was opened as a database to be changed.
@@ -70,7 +70,7 @@ pub struct Notes {
 }
 
 impl Notes {
-    /// No notes.
+    /// Returns empty notes.
     pub fn new() -> Notes {
         Notes {
             failure: Cell::new(None),
@@ -87,8 +87,8 @@ impl Notes {
         }
     }
 
-    /// Whether the path of that file still leads to it, if there is one. Where it does not, that is
-    /// noted as a failure.
+    /// Returns whether the path of that file still leads to it, or true if there is none. If it
+    /// does not, that is noted as a failure.
     pub fn database_stands(&self, rt: &HostRuntime) -> bool {
         match self.database.try_borrow() {
             Ok(database) => match &*database {
@@ -114,15 +114,15 @@ impl Notes {
         }
     }
 
-    /// Notes what failed, if nothing did before: the first failure is what ends a command.
+    /// Notes what failed, unless a failure was noted before: the first one is what ends a command.
     pub fn fail(&self, name: Name, cause: Option<io::Error>) {
         if self.failure.get().is_none() {
             self.failure.set(Some(Failure { name, cause }));
         }
     }
 
-    /// Looks at bytes that were read, for lines that are nearly of a board. Without any bytes the
-    /// text has ended. A certificate is passed over: it is long, and has no such line.
+    /// Searches bytes that were read for lines that are almost lines of a board. No bytes mean that
+    /// the text has ended. A certificate is skipped: it is long and has no such line.
     pub fn pass(&self, bytes: &[u8]) {
         let is_other = match self.is_other.get() {
             Some(is_other) => is_other,
@@ -146,8 +146,8 @@ impl Notes {
         }
     }
 
-    /// Tells what failed, where the exit status is that of a device, and then the first ten of the
-    /// lines, and how many there are more.
+    /// Writes what failed, if the exit status is 5, that of a device. Then writes the first ten of
+    /// the noted lines, and how many more there are.
     pub fn tell<E: Write>(&self, status: u8, err: &mut E) {
         if status == 5 {
             if let Some(failure) = self.failure.get() {
@@ -160,7 +160,7 @@ impl Notes {
     }
 }
 
-/// Tells the first of so many lines.
+/// Writes the first of `count` noted lines, and how many more there are.
 fn tell_near<E: Write>(first: &[NearLine], count: u64, err: &mut E) {
     for near in first {
         tell_line(*near, err);
@@ -171,7 +171,7 @@ fn tell_near<E: Write>(first: &[NearLine], count: u64, err: &mut E) {
     }
 }
 
-/// Tells a line, by one write where the stream takes it whole.
+/// Writes a line, by one write if the stream takes it whole.
 fn tell_line<D: fmt::Display + Drop, E: Write>(words: D, err: &mut E) {
     let mut line = InlineText::<1400>::new();
     let _ = line.writeln(words);

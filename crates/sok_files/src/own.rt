@@ -1,11 +1,11 @@
-//! A file that a run has open beside its certificates, into which none is written.
+//! A file that a run has open beside its certificates. No certificate is written into it.
 
 ghost use Rattle.std.specs.Prelude.{◌≡◌};
 
 use std::fmt::InlineText;
 use std::io;
 
-/// The collection, or the book, of a run: where it is, and what it is called in a cause.
+/// The collection or the book of a run: its path, and its name in an error message.
 #[derive(Clone, Copy)]
 pub struct Own<'a> {
     pub path: &'a str,
@@ -13,7 +13,7 @@ pub struct Own<'a> {
 }
 
 impl<'a> Own<'a> {
-    /// The collection at a path.
+    /// Returns the collection at a path.
     pub fn collection(path: &'a str) -> Own<'a>
         ensures { result.path.now ≡ path.now }
     {
@@ -23,7 +23,7 @@ impl<'a> Own<'a> {
         }
     }
 
-    /// The book in the database at a path.
+    /// Returns the book in the database at a path.
     pub fn book(path: &'a str) -> Own<'a>
         ensures { result.path.now ≡ path.now }
     {
@@ -33,7 +33,7 @@ impl<'a> Own<'a> {
         }
     }
 
-    /// Why nothing else is written into its file.
+    /// Returns the error for writing anything else into this file.
     pub(crate) fn error(&self) -> io::Error {
         let name = self.name;
         io::Error::other(InlineText::<40>::of(format_args!("{name} is in this file")).as_str())

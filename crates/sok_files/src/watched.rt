@@ -1,5 +1,5 @@
-//! Files and streams that are watched: each call is passed on, and what fails is noted, and what is
-//! read. So the contracts are those of what is watched.
+//! Wrappers that watch files and streams. They pass each call on, so the contracts are those of the
+//! inner value, and note what fails and what is read.
 
 ghost use Rattle.std.specs.Prelude.{◌≡◌};
 ghost use Rattle.sok_files.specs.Files.{with_makes};
@@ -10,7 +10,7 @@ use crate::own::Own;
 use std::alloc::Global;
 use std::io::{self, ErrorKind, Read, Write};
 
-/// A folder, or what else opens by paths, that is watched.
+/// A watched folder, or anything else that opens by paths.
 #[derive(Drop)]
 pub struct Watched<'a, F> {
     inner: &'a F,
@@ -24,19 +24,19 @@ impl<'a, F> Watched<'a, F> {
         Watched { inner, notes }
     }
 
-    /// What is watched.
+    /// Returns the inner value.
     pub fn inner(&self) -> &'a F
         ensures { result.now ≡ self.now.inner.now }
     {
         self.inner
     }
 
-    /// What is noted.
+    /// Returns the notes.
     pub fn notes(&self) -> &'a Notes {
         self.notes
     }
 
-    /// Notes that what is at a path failed.
+    /// Notes that the file at `path` failed.
     pub fn fail(&self, path: &str, cause: Option<io::Error>) {
         self.notes.fail(Name::of(path), cause);
     }
@@ -107,7 +107,7 @@ impl<'a, F: Folder> Folder for Watched<'a, F> {
     }
 }
 
-/// A reader that is watched.
+/// A watched reader.
 #[derive(Drop)]
 pub struct WatchedInput<'a, R> {
     inner: R,
@@ -116,7 +116,7 @@ pub struct WatchedInput<'a, R> {
 }
 
 impl<'a, R> WatchedInput<'a, R> {
-    /// The name is what it is told by.
+    /// Watches `inner`. Failures are reported under `name`.
     pub fn new(inner: R, name: &str, notes: &'a Notes) -> WatchedInput<'a, R>
         ensures { result.inner ≡ inner }
     {
@@ -145,7 +145,7 @@ impl<'a, R: Read> Read for WatchedInput<'a, R> {
     }
 }
 
-/// A writer that is watched.
+/// A watched writer.
 #[derive(Drop)]
 pub struct WatchedOutput<'a, W> {
     inner: W,
@@ -154,7 +154,7 @@ pub struct WatchedOutput<'a, W> {
 }
 
 impl<'a, W> WatchedOutput<'a, W> {
-    /// The name is what it is told by.
+    /// Watches `inner`. Failures are reported under `name`.
     pub fn new(inner: W, name: &str, notes: &'a Notes) -> WatchedOutput<'a, W>
         ensures { result.inner ≡ inner }
     {

@@ -1,4 +1,4 @@
--- Which level has a board, why another has none, and what is answered to each.
+-- Which level has a board, why another has none, and the answers to each.
 use Rattle.std.specs.Prelude.{◌≡◌, ◌≢◌, Result, Ok, Err}
 use Rattle.sok_rules.specs.declared.fault.LevelFault.{LevelFault}
 use Rattle.sok_rules.specs.Squares.{Rows}
@@ -21,7 +21,7 @@ pub record IsBoardOf (level : Result Rows LevelFault) (b : BoardView) : Type 0 w
   pub rows : level ≡ Ok b.rows
   pub accepted : IsAccepted b
 
--- why there is no board: the fault of the level or of its board, or want of memory
+-- why there is no board: the fault of the level or of its board, or memory was refused
 pub data LacksBoard (level : Result Rows LevelFault) (fault : ToolFault) : Type 0 where
   faulty : (f : LevelFault) → level ≡ Err f → fault ≡ of_level f → LacksBoard level fault
   unaccepted : (rows : Rows) (f : BoardFault) → level ≡ Ok rows → IsRefused rows f → fault ≡ of_board f → LacksBoard level fault

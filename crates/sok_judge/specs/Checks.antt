@@ -1,4 +1,4 @@
--- What is answered to a certificate for a level of a collection.
+-- The answers to a certificate for a level of a collection.
 use Rattle.std.specs.Prelude.{ℕ, ◌≡◌, List, Option, Result, Ok}
 use Rattle.sok_text.specs.Collections.{blocks_of, level_at}
 use Rattle.sok_board.specs.Area.{BoardView}
@@ -22,6 +22,6 @@ TellsVerdictWithin limit text b = Within limit (TellsVerdict b) text
 abbrev pub IsCheck : ℕ → ℕ → List ℕ → List ℕ → Answers
 IsCheck limit n text bytes = OnLevel (OnBoard (TellsVerdictWithin limit text)) (level_at (blocks_of bytes) n)
 
--- the same for the text that a reader has left
+-- the same for the text that is left in a reader
 abbrev pub IsCheckOf : ℕ → ℕ → Option (List ℕ) → List ℕ → Answers
 IsCheckOf limit n cert bytes = OfReader cert (λ text. IsCheck limit n text bytes)

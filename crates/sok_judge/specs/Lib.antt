@@ -1,6 +1,6 @@
--- Words of public contracts: how it is told what a certificate shows (Verdicts), which level has a board (Boards), and what is answered to a
+-- Definitions that public contracts use: the answer for what a certificate proves (Verdicts), which level has a board (Boards), and the answers to a
 -- certificate (Checks).
--- Words of the crate's own contracts: a certificate that was read to its end (Streams).
+-- Definitions that the crate's own contracts use: a certificate that was read to its end (Streams).
 pub mod Boards
 pub mod Checks
 pub mod Streams

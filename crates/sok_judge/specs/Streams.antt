@@ -1,9 +1,9 @@
--- A certificate that a reader has left, read to its end.
+-- A certificate that is left in a reader, read to its end.
 use Rattle.std.specs.Prelude.{ℕ, ◌≡◌, ◌≤◌, List, Option, IfSome, length}
 use Rattle.sok_board.specs.Area.{BoardView}
 use Rattle.sok_cert.specs.Streams.{StandsFor, Streamed}
 
--- the stream stands for the bytes that the reader has left, which are not too many; where it does not tell them, for some bytes
+-- the stream has read the bytes that are left in the reader, which are not too many; if these are not known, it has read some bytes
 pub record IsStreamOf (known : Option (List ℕ)) (limit : ℕ) (b : BoardView) (s : Streamed) : Type 0 where
   pub text : List ℕ
   pub all : IfSome known (λ bytes. text ≡ bytes)

@@ -1,4 +1,4 @@
--- How it is told what a certificate shows.
+-- The answer that reports what a certificate proves.
 use Rattle.std.specs.Prelude.{ℕ, List, ◌++◌, Result, Ok, Err, codes}
 use Rattle.std.specs.Fmt.{decimal}
 use Rattle.sok_cert.specs.Claim.{Claim}
@@ -7,7 +7,7 @@ use Rattle.sok_cert.specs.CertFault.{CertFault}
 use Rattle.sok_cert.specs.Faults.{cert_fault_number, cert_fault_words}
 use Rattle.sok_engine.specs.Written.{Answer}
 
--- the words for a claim that is true
+-- the words for a true claim
 abbrev pub accepted_words : Claim → List ℕ
 accepted_words (Pushes k) = codes "accepted at least " ++ decimal k ++ codes " pushes"
 accepted_words Unsolvable = codes "accepted unsolvable"
@@ -16,7 +16,7 @@ accepted_words Unsolvable = codes "accepted unsolvable"
 abbrev pub refused_words : CertFault → List ℕ
 refused_words fault = codes "refused " ++ decimal (cert_fault_number fault) ++ codes " " ++ cert_fault_words fault
 
--- the answer that tells what a certificate shows: status 0 for a claim, and 1 for a fault
+-- the answer that reports what a certificate proves: status 0 for a claim, and 1 for a fault
 abbrev pub verdict_answer : Result Claim CertFault → Answer
 verdict_answer (Ok claim) = record { text = accepted_words claim ++ codes "\n"; status = 0 }
 verdict_answer (Err fault) = record { text = refused_words fault ++ codes "\n"; status = 1 }

@@ -1,4 +1,4 @@
-//! The judgement of a certificate for a level of a collection.
+//! Judging a certificate for a level of a collection.
 
 ghost use Rattle.std.specs.Prelude.{◌≡◌, ◌⊎◌, ℕ, List, IfSome, MatchResult, Ok, Err};
 ghost use Rattle.sok_text.specs.Collections.{blocks_of, level_at};
@@ -26,16 +26,15 @@ use sok_text::collection::Collection;
 use std::alloc::Global;
 use std::io::{Read, Write};
 
-/// Judges a certificate for the n-th level of a collection, counted from 1. Written is `accepted at
-/// least K pushes` or `accepted unsolvable` with LF, at status 0: then the level cannot be solved
-/// with fewer pushes, or not at all. Else it is `refused`, with the number, the name and the
-/// arguments of the first fault of the certificate's text or of the certificate, at status 1.
+/// Judges a certificate for the n-th level of a collection, counted from 1. If it holds, writes the
+/// line `accepted at least K pushes` or `accepted unsolvable`, with status 0: no solution has fewer
+/// than K pushes, or there is none. Otherwise writes `refused` with the number, the name and the
+/// arguments of the first fault of the certificate's text or of the certificate, with status 1.
 ///
-/// Where there is no such answer nothing is written, and the fault is the first of these:
-/// `ReadFailed` or `TooMuch` of the collection; a fault of the level; one of its board;
-/// `ReadFailed` or `TooMuch` of the certificate. A write that fails is `WriteFailed` at once, after
-/// a front of the line. Of readers that do not tell which bytes they hold, this is promised of some
-/// bytes.
+/// Errors, in this order, with nothing written: `ReadFailed` or `TooMuch` of the collection; a
+/// fault of the level; a fault of its board; `ReadFailed` or `TooMuch` of the certificate.
+/// `WriteFailed` as soon as a write fails; by then a first part of the line may be written. For
+/// readers whose remaining bytes are unknown, this is promised for some bytes.
 pub fn check_bytes<R: Read, C: Read, W: Write>(
     alloc: Global,
     input: &mut R,
@@ -47,7 +46,7 @@ pub fn check_bytes<R: Read, C: Read, W: Write>(
         (Within input_limit (IsCheckOf cert_limit n (C.remaining cert_input.old))))
         (W.contents out.old) (W.contents out.new) result }
 
-    // The certificate is left alone, unless the level has a board.
+    // The certificate is not read unless the level has a board.
     ensures in_turn { IfSome (R.remaining input.old) (λ bytes. (cert_input.new ≡ cert_input.old)
         ⊎ ((b : BoardView) × IsBoardOf (level_at (blocks_of bytes) n) b)) }
 {
@@ -56,7 +55,7 @@ pub fn check_bytes<R: Read, C: Read, W: Write>(
     judge_input(alloc, &board, cert_input, out)
 }
 
-/// The board of the n-th level of a collection.
+/// Returns the board of the n-th level of a collection.
 fn board_of(alloc: Global, collection: &[u8], n: usize) -> Result<Board, ToolFault>
     ensures { MatchResult result (IsBoardOf (level_at (blocks_of collection.now) n))
         (LacksBoard (level_at (blocks_of collection.now) n)) }
@@ -80,7 +79,7 @@ fn judge_input<C: Read, W: Write>(
     answer.write(out)
 }
 
-/// The answer to a certificate that was read to its end.
+/// Returns the answer to a certificate that was read to its end.
 fn judged(alloc: Global, stream: Stream<'_>) -> Result<Answer, ToolFault>
     ensures { (text : List ℕ) → StandsFor stream.entry.board text stream.entry.progress
         → MatchResult result
@@ -94,7 +93,7 @@ fn judged(alloc: Global, stream: Stream<'_>) -> Result<Answer, ToolFault>
     }
 }
 
-/// The claim that the text of a certificate shows, or the first fault.
+/// Returns the claim that the text of a certificate proves, or the first fault.
 fn verdict(stream: Stream<'_>) -> Result<Claim, CertFault>
     ensures { (text : List ℕ) → StandsFor stream.entry.board text stream.entry.progress
         → (result ≡ Err cert.Memory) ⊎ IsVerdict stream.entry.board text result }
@@ -102,7 +101,7 @@ fn verdict(stream: Stream<'_>) -> Result<Claim, CertFault>
     Ok(stream.ended()?.judge()?.claim())
 }
 
-/// A collection and a certificate have one answer at most.
+/// A collection and a certificate have at most one answer.
 pub fn certificates_have_one_answer()
     ensures { (limit most n : ℕ) (bytes text : List ℕ)
         → HasOne (Within limit (IsCheck most n text) bytes) }

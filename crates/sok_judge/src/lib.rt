@@ -2,9 +2,9 @@
 //!
 //! | Module | What it holds |
 //! |---|---|
-//! | `check` | the judgement |
+//! | `check` | judging a certificate |
 //! | `reading` | a certificate, judged as it is read (private) |
-//! | `verdict` | how it is told |
+//! | `verdict` | the answer for a verdict |
 #![tactic(auto)]
 
 pub mod check;

@@ -10,13 +10,14 @@ use sok_engine::input::{CERT_LIMIT, InputFault};
 use std::alloc::{AllocError, Global};
 use std::io::Read;
 
-/// The most bytes of a piece. Lists of inner positions that come again are passed as a whole where
-/// all of their lines are in one.
+/// The greatest length of a piece, in bytes. A list of inner positions that occurs again is taken
+/// as a whole, not line by line, if all of its lines are in one piece.
 const PIECE: usize = 65_536;
 
-/// Reads to the end of a certificate for a board, in pieces. A read that fails, for any cause, is
-/// `ReadFailed` at once. A byte past the limit is `TooMuch`, after which some more bytes may have
-/// been read.
+/// Reads a certificate for a board to its end, in pieces.
+///
+/// Errors: `ReadFailed` as soon as a read fails, for any cause; `TooMuch` if there is a byte past
+/// the limit, after which some more bytes may have been read; `Memory`.
 pub(crate) fn stream_of<'a, R: Read>(
     alloc: Global,
     board: &'a Board,
@@ -48,7 +49,7 @@ pub(crate) fn stream_of<'a, R: Read>(
     Err(InputFault::TooMuch)
 }
 
-/// Room for so many bytes.
+/// Returns a buffer of this many bytes.
 fn room_for(alloc: Global, bytes: usize) -> Result<Vec<u8>, AllocError>
     ensures { IfOk result (λ room. vec_len room ≡ bytes) }
 {

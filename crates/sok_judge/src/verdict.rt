@@ -1,4 +1,4 @@
-//! How it is told what a certificate shows.
+//! The answer that reports what a certificate proves.
 
 ghost use Rattle.std.specs.Prelude.{◌≡◌, IfOk, Ok, Err, Some};
 ghost use Rattle.sok_judge.specs.Verdicts.{accepted_words, verdict_answer};
@@ -9,8 +9,8 @@ use sok_engine::answer::Answer;
 use std::alloc::{AllocError, Global};
 use std::fmt;
 
-/// The answer for a claim that is true: `accepted at least K pushes` or `accepted unsolvable` with
-/// LF, at status 0.
+/// Returns the answer for a true claim: the line `accepted at least K pushes` or `accepted
+/// unsolvable`, with status 0.
 pub fn accepted_answer(alloc: Global, claim: Claim) -> Result<Answer, AllocError>
     ensures { IfOk result (λ answer. answer ≡ verdict_answer (Ok claim)) }
 {
@@ -19,8 +19,8 @@ pub fn accepted_answer(alloc: Global, claim: Claim) -> Result<Answer, AllocError
     Ok(Answer::new(line.into_bytes(), 0))
 }
 
-/// The answer for the first fault: `refused`, its number, its name and its arguments with LF, at
-/// status 1.
+/// Returns the answer for the first fault: a line with `refused`, its number, its name and its
+/// arguments, with status 1.
 pub fn refused_answer(alloc: Global, fault: CertFault) -> Result<Answer, AllocError>
     ensures { IfOk result (λ answer. answer ≡ verdict_answer (Err fault)) }
 {
@@ -28,7 +28,7 @@ pub fn refused_answer(alloc: Global, fault: CertFault) -> Result<Answer, AllocEr
     Ok(Answer::new(line.into_bytes(), 1))
 }
 
-/// The words for a claim that is true.
+/// The words for a true claim.
 #[derive(Clone, Copy)]
 struct Accepted(Claim);
 

@@ -1,5 +1,5 @@
--- Words of public contracts: how the connection is treated (Causes), and what is answered, and what becomes of the book, where levels are added (Adds), solutions
--- offered (Offers), verdicts proved (Proves), and pages shown (Shows). The proof's own: `Adding`.
+-- Definitions that public contracts use: how the connection is treated (Causes); and the answers, and the book after them, when levels are added (Adds),
+-- solutions offered (Offers), verdicts proved (Proves), and pages shown (Shows). For proofs only: `Adding`.
 pub mod Adding
 pub mod Adds
 pub mod Causes

@@ -1,4 +1,4 @@
--- What is answered to letters that are offered, and what becomes of the book.
+-- The answers to letters that are offered, and the book after them.
 use Rattle.std.specs.Prelude.{ℕ, ℤ, ◌≡◌, ◌⊎◌, List, ◌++◌, Option, Some, Result, Ok, Err, IfErr, IsSomeAnd, codes}
 use Rattle.std.specs.Fmt.{decimal}
 use Rattle.sok_rules.specs.declared.cell.Dir.{Dir}
@@ -25,7 +25,7 @@ abbrev pub offer_status : Offer → ℕ
 offer_status Stored = 0
 offer_status Kept = 1
 
--- what became of an offer, and the pushes and moves of the best
+-- what became of an offer, and the pushes and moves of the best solution
 abbrev pub offer_line : Offer → ℕ → ℕ → List ℕ
 offer_line offer pushes moves = offer_word offer ++ (codes " " ++ (decimal pushes ++ (codes " " ++ (decimal moves ++ codes "\n"))))
 
@@ -36,7 +36,7 @@ told_offer offer pushes moves = record { text = offer_line offer pushes moves; s
 abbrev pub HasBest : Book → ℕ → Solution → Type 0
 HasBest book id best = IsSomeAnd (page_at book id) (λ page. page.best ≡ Some best)
 
--- the command was done, and told are the pushes and moves of the best in the book after it
+-- the command was done, and the answer has the pushes and moves of the best solution in the book after it
 pub record TellsOffer (book : Book) (id : ℕ) (letters : List Dir) (after : Book) (answer : Answer) : Type 0 where
   pub offer : Offer
   pub offered : Offers book id letters offer after
@@ -48,21 +48,21 @@ pub record TellsOffer (book : Book) (id : ℕ) (letters : List Dir) (after : Boo
 abbrev pub IsLetterFault : Book → ℕ → List Dir → ToolFault → Type 0
 IsLetterFault book id letters fault = (fault ≡ tool.Book refusal.Database) ⊎ ((cause : BookFault) × IsNotOffered book id letters cause × (fault ≡ of_book cause))
 
--- the text does not spell letters, or it does and they are refused
+-- the text does not spell letters, or it does and the letters are refused
 abbrev pub IsTextFault : Book → ℕ → List ℕ → ToolFault → Type 0
 IsTextFault book id text fault =
     ((wrong : LurdFault) × GoesWrong text wrong × (fault ≡ of_lurd wrong)) ⊎ ((letters : List Dir) × Spells text letters × IsLetterFault book id letters fault)
 
--- the answer to a text that is offered to the level with an id, where this is the book after it
+-- the answer to a text that is offered to the level with this id; `after` is the book after it
 abbrev pub IsOffer : Book → ℤ → List ℕ → Book → Answers
 IsOffer book id text after (Ok answer) = (letters : List Dir) × Spells text letters × TellsOffer book (id_number id) letters after answer
 IsOffer book id text after (Err fault) = IsTextFault book (id_number id) text fault
 
--- only a command whose answer could not be written has changed the book where there is a fault
+-- on a fault the book stays, unless the command was done and its answer could not be written
 abbrev pub StaysOnFault : Book → Book → Result ℕ ToolFault → Type 0
 StaysOnFault book after result = IfErr result (λ fault. (fault ≡ tool.WriteFailed) ⊎ (after ≡ book))
 
--- a book that the offer of a text makes
+-- the offer of this text makes this book
 abbrev pub OffersText : ℤ → List ℕ → Book → Book → Type 0
 OffersText id text book after = (letters : List Dir) × Spells text letters × (answer : Offer) × Offers book (id_number id) letters answer after
 

@@ -1,4 +1,4 @@
--- What is answered to a certificate for a level of a book, and what becomes of the book.
+-- The answers to a certificate for a level of a book, and the book after them.
 use Rattle.std.specs.Prelude.{ℕ, ℤ, ◌≡◌, List, ◌++◌, Option, Result, Ok, Err, IfSome, codes}
 use Rattle.std.specs.Fmt.{decimal}
 use Rattle.sok_cert.specs.Claim.{Claim}
@@ -34,16 +34,16 @@ pub data TellsProof (book : Book) (id : ℕ) (bytes : List ℕ) (after : Book) (
   unproved : (cause : BookFault) → IsNotProved book id bytes cause → after ≡ book → answer ≡ Err (of_book cause) → TellsProof book id bytes after answer
   failed : after ≡ book → answer ≡ Err (tool.Book refusal.Database) → TellsProof book id bytes after answer
 
--- the answer to the bytes of a certificate for the level with an id, where this is the book after it
+-- the answer to the bytes of a certificate for the level with this id; `after` is the book after it
 abbrev pub IsProof : Book → ℤ → Book → List ℕ → Answers
 IsProof book id after bytes = TellsProof book (id_number id) bytes after
 
--- the answer to the certificate that a reader has left was written, and this is the book after the command
+-- the answer to the certificate that is left in a reader was written, and this is the book after the command
 abbrev pub WritesProof : Book → ℤ → Option (List ℕ) → Book → Option (List ℕ) → Option (List ℕ) → Result ℕ ToolFault → Type 0
 WritesProof book id known after old new result =
     Writes (OfReader known (Within cert_limit (IsProof book id after))) old new result × StaysOnFault book after result
 
--- a book that a proof by the bytes of a reader makes
+-- a certificate with the bytes that are left in a reader makes this book
 abbrev pub ProvesBytes : ℤ → Option (List ℕ) → Book → Book → Type 0
 ProvesBytes id known book after =
     (bytes : List ℕ) × IfSome known (λ all. bytes ≡ all) × (claim : Claim) × Proves book (id_number id) bytes claim after

@@ -1,4 +1,4 @@
-//! The levels of a collection are added to a book.
+//! Adding the levels of a collection to a book.
 
 ghost use Rattle.std.specs.Prelude.{◌≡◌, ◌≢◌, ◌≤◌, ◌⊎◌, ◌+◌, ◌++◌, [], IfErr, IfOk, OnErr, OnOk, Ok};
 ghost use Rattle.std.specs.Prelude.{option_map, string_bytes, vec_capacity, vec_len};
@@ -29,15 +29,15 @@ use sqlite::Alter;
 use std::alloc::{AllocError, Global};
 use std::io::{Read, Write};
 
-/// Adds the levels of a collection, in order, with their titles. Written is one line with LF for
-/// each: its number, from 1, then `id` and its id in the book, or its fault, at status 0. A level
-/// that stands there already keeps its id and its title, and one that has a fault, or no board,
-/// changes nothing.
+/// Adds the levels of a collection, in order, with their titles. Writes a line for each level, with
+/// its number, counted from 1: `N id ID` with its id in the book, or `N fault ..` with its fault.
+/// The status is 0. A level that is already in the book keeps its id and its title. A level that
+/// has a fault, or no board, changes nothing.
 ///
-/// Any other fault ends the call: `ReadFailed` or `TooMuch`, before any level; `BookFull` at the
-/// first that is new where there are 10,000; `Database` or `Memory` at any. The levels before it
-/// stay added, and their lines are written all the same. A write that fails is `WriteFailed`, after
-/// a front of the lines, also where another fault had ended the call.
+/// Any other fault ends the call: `ReadFailed` or `TooMuch`, before any level; `BookFull`, at the
+/// first new level if there are 10,000; `Database` or `Memory`, at any level. The levels before it
+/// stay added, and their lines are still written. `WriteFailed` if a write fails, also after
+/// another fault; by then a first part of the lines may be written.
 pub fn add_bytes<S: Alter, R: Read, W: Write>(
     alloc: Global,
     book: &mut Book<S>,
@@ -57,7 +57,7 @@ pub fn add_bytes<S: Alter, R: Read, W: Write>(
     Ok(0)
 }
 
-/// Adds all levels of a collection, and tells each in a line.
+/// Adds all levels of a collection and appends a line for each.
 fn add_all<S: Alter>(
     alloc: Global,
     book: &mut Book<S>,
@@ -93,8 +93,8 @@ fn add_levels<S: Alter>(
     Ok(())
 }
 
-/// Adds a level, and tells it in a line. There is room for the line of one that is in the book, so
-/// that no want of memory comes between it and its line.
+/// Adds a level and appends its line. The caller has reserved room for the line of an added level,
+/// so memory can't run out between the level and its line.
 fn add_level<S: Alter>(
     alloc: Global,
     book: &mut Book<S>,
@@ -116,7 +116,7 @@ fn add_level<S: Alter>(
     }
 }
 
-/// Tells a level with a fault, unless memory was refused.
+/// Appends the line of a level with a fault. `Memory` if that is the fault.
 fn tell_faulty(
     alloc: Global,
     n: usize,
@@ -135,7 +135,7 @@ fn tell_faulty(
     }
 }
 
-/// Adds a level without a fault, and tells it.
+/// Adds a level without a fault and appends its line.
 fn add_made<S: Alter>(
     alloc: Global,
     book: &mut Book<S>,
@@ -160,7 +160,7 @@ fn add_made<S: Alter>(
     }
 }
 
-/// Tells a level that has no board. Another fault of the book ends the call.
+/// Appends the line of a level that has no board. Any other fault of the book ends the call.
 fn tell_refused(
     alloc: Global,
     n: usize,
@@ -179,7 +179,7 @@ fn tell_refused(
     }
 }
 
-/// Adds the line of a level that is in the book, for which there is room.
+/// Appends the line of a level that is in the book, for which there is room.
 fn push_id_line(n: usize, id: i64, lines: &mut Vec<u8>)
     requires { vec_len lines.old + LINE_ROOM ≤ vec_capacity lines.old }
     ensures { lines.new.items ≡ lines.old.items ++ id_line n id }
@@ -199,7 +199,7 @@ fn id_line(n: usize, id: i64) -> Line
     line
 }
 
-/// Adds the line of a level that is not added.
+/// Appends the line of a level that is not added.
 fn push_fault_line(
     alloc: Global,
     n: usize,

@@ -1,13 +1,13 @@
-//! The engines on a book: levels are added, solutions offered and proved optimal, and what is known
-//! is shown.
+//! The engines that work on a book: they add levels, offer solutions, prove verdicts, and show
+//! levels.
 //!
 //! | Module | What it holds |
 //! |---|---|
-//! | `add` | the levels of a collection are added |
-//! | `line` | the line of a command that was done |
-//! | `offer` | a solution is offered |
-//! | `prove` | a verdict is proved |
-//! | `show` | one level is shown, or a text of all is written |
+//! | `add` | adding the levels of a collection |
+//! | `line` | the line of a command that was done (private) |
+//! | `offer` | offering a solution |
+//! | `prove` | proving a verdict |
+//! | `show` | showing one level, or writing a text of all |
 #![tactic(auto)]
 
 pub mod add;

@@ -1,4 +1,4 @@
-//! A solution is offered to a level of a book.
+//! Offering a solution of a level of a book.
 
 ghost use Rattle.std.specs.Prelude.{◌≡◌, ◌≤◌, IfErr, OnOk, length};
 ghost use Rattle.sqlite.specs.Held.{state};
@@ -19,14 +19,15 @@ use sqlite::Alter;
 use std::alloc::Global;
 use std::io::Write;
 
-/// Offers a text of letters as a solution of the level with an id. Written is `stored PUSHES MOVES`
-/// with LF, at status 0, where there was no best solution or it had more pushes: the text is the
-/// best now. Else it is `kept PUSHES MOVES`, at status 1, with those of the best that stays.
+/// Offers a text of letters as a solution of the level with this id. If the level had no best
+/// solution, or one with more pushes, this is now the best one: writes the line `stored PUSHES
+/// MOVES`, with status 0. Otherwise writes `kept PUSHES MOVES` with those of the best solution,
+/// which stays, with status 1.
 ///
-/// Where there is no such answer nothing is written and the book is as it was, and the fault is the
-/// first of these: `BadLetter` or `TooLong`; `NoLevel`; `Blocked`; `NotSolved`. `Database` may
-/// stand in place of any but the first two. A write that fails is `WriteFailed` at once, after a
-/// front of the line, and the command stands. No memory is taken once it is done.
+/// Errors, in this order, with nothing written and the book as it was: `BadLetter` or `TooLong`;
+/// `NoLevel`; `Blocked`; `NotSolved`. `Database` may replace any but the first two. `WriteFailed`
+/// as soon as a write fails: a first part of the line may be written, and the change of the book
+/// stands. Nothing is allocated after the change.
 pub fn offer_bytes<S: Alter, W: Write>(
     alloc: Global,
     book: &mut Book<S>,
@@ -49,8 +50,8 @@ pub fn offer_bytes<S: Alter, W: Write>(
     }
 }
 
-/// The line of what became of an offer, with the pushes and moves of the best after it, made without
-/// memory.
+/// Returns the line for the answer to an offer, with the pushes and moves of the best solution
+/// after it. It is made without allocating.
 pub fn offer_line(told: &Standing) -> ArrayString<64>
     ensures line { result.bytes ≡ offer_line told.now.offer told.now.pushes told.now.moves }
     ensures short { length result.bytes ≤ 40 }
@@ -65,7 +66,7 @@ pub fn offer_line(told: &Standing) -> ArrayString<64>
     line
 }
 
-/// The word for what became of an offer.
+/// Returns the word for what became of an offer.
 fn offer_word(offer: Offer) -> &'static str
     ensures { result.now ≡ offer_word offer }
 {

@@ -1,4 +1,4 @@
-//! A verdict on a level of a book is proved.
+//! Proving a verdict on a level of a book.
 
 ghost use Rattle.std.specs.Prelude.{◌≡◌, ◌⊎◌, Err, IfErr, IfOk};
 ghost use Rattle.sqlite.specs.Held.{state};
@@ -24,16 +24,15 @@ use sqlite::Alter;
 use std::alloc::{AllocError, Global};
 use std::io::{Read, Write};
 
-/// Judges a certificate for the level with an id, and where it holds, keeps the verdict. Written is
-/// `proved optimal K` with LF, at status 0, where it shows that no solution has fewer than the K
-/// pushes of the best one; or `proved unsolvable`, where there is none; or `refused`, with the
-/// number, the name and the arguments of the first fault of the certificate, at status 1.
+/// Judges a certificate for the level with this id and, if it holds, keeps the verdict. Writes one
+/// line: `proved optimal K`, with status 0, if no solution has fewer pushes than the K of the best
+/// one; `proved unsolvable`, with status 0, if there is no solution; or `refused` with the number,
+/// the name and the arguments of the certificate's first fault, with status 1.
 ///
-/// Where there is no such answer nothing is written and the book is as it was, and the fault is the
-/// first of these: `ReadFailed` or `TooMuch`; `NoLevel`; for a certificate's text that can be read
-/// `NoBest` or `ClaimDiffers`. `Database` may stand in place of any but the first two. A write that
-/// fails is `WriteFailed` at once, after a front of the line, and the command stands. No memory is
-/// taken once it is done.
+/// Errors, in this order, with nothing written and the book as it was: `ReadFailed` or `TooMuch`;
+/// `NoLevel`; if the text of the certificate can be read, `NoBest` or `ClaimDiffers`. `Database`
+/// may replace any but the first two. `WriteFailed` as soon as a write fails: a first part of the
+/// line may be written, and the change of the book stands. Nothing is allocated after the change.
 pub fn prove_bytes<S: Alter, C: Read, W: Write>(
     alloc: Global,
     book: &mut Book<S>,
@@ -61,7 +60,7 @@ pub fn prove_bytes<S: Alter, C: Read, W: Write>(
     }
 }
 
-/// The answer for a certificate that is refused. Another fault of the book has none.
+/// Returns the answer for a refused certificate. For any other fault of the book there is none.
 fn unproved_answer(alloc: Global, fault: BookFault) -> Result<Answer, ToolFault>
     ensures answer { IfOk result (λ answer. (cause : CertFault)
         × (fault ≡ refusal.Certificate cause) × (answer ≡ verdict_answer (Err cause))) }
@@ -73,7 +72,7 @@ fn unproved_answer(alloc: Global, fault: BookFault) -> Result<Answer, ToolFault>
     }
 }
 
-/// What is proved of a level.
+/// Returns the line that says what was proved of a level.
 fn proved_line(claim: Claim) -> Line
     ensures { result.bytes ≡ proved_line claim }
 {

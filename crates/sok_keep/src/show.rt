@@ -1,4 +1,4 @@
-//! One level of a book is shown, or a text of all is written.
+//! Showing one level of a book, or writing a text of all.
 
 ghost use Rattle.std.specs.Prelude.{◌≡◌, ◌⊎◌, IfErr, IfOk, IsNone};
 ghost use Rattle.sqlite.specs.Held.{state};
@@ -23,12 +23,12 @@ use sqlite::Alter;
 use std::alloc::Global;
 use std::io::Write;
 
-/// Shows the level with an id: its canonical rows; then `title TITLE`, if it has one; `best PUSHES
-/// MOVES LURD` or `best none`; and `verdict untested`, `verdict optimal` or `verdict unsolvable`,
-/// each on a line, at status 0. The book stays as it is.
+/// Writes the level with this id: its canonical rows and then, each on a line, `title TITLE`, if it
+/// has one; `best PUSHES MOVES LURD` or `best none`; and `verdict untested`, `verdict optimal` or
+/// `verdict unsolvable`. The status is 0. The book stays as it is.
 ///
-/// Where there is no such level nothing is written, and the fault is `NoLevel`. A write that fails
-/// is `WriteFailed` at once, after a front of the lines.
+/// Errors: `NoLevel` if there is none, and nothing is written; `WriteFailed` as soon as a write
+/// fails; by then a first part of the lines may be written.
 pub fn show_bytes<S: Alter, W: Write>(
     alloc: Global,
     book: &mut Book<S>,
@@ -46,7 +46,7 @@ pub fn show_bytes<S: Alter, W: Write>(
     answer.write(out)
 }
 
-/// The record of the level with an id.
+/// Returns the record of the level with this id.
 fn record_at<S: Alter>(book: &mut Book<S>, id: i64) -> Result<Record, ToolFault>
     ensures found { IfOk result (λ kept. KeepsBook (state S.Store book.old) (state S.Store book.new)
         (λ pages. IsRecordAt pages (id_number id) kept)) }
@@ -63,17 +63,18 @@ fn record_at<S: Alter>(book: &mut Book<S>, id: i64) -> Result<Record, ToolFault>
     }
 }
 
-/// Writes a text of all levels of a book, in order of their ids, at status 0. The book stays as it
-/// is, and of an empty one nothing is written.
+/// Writes a text of all levels of a book, in order of their ids, with status 0. The book stays as
+/// it is. For an empty book nothing is written.
 ///
-/// `Export` is a collection: for each level `; TITLE`, if it has one, its canonical rows, where
-/// solutions are asked for `Solution: LURD` and `Pushes: K` or `Pushes: K optimal`, or `Unsolvable`,
-/// and an empty line. So it is read back as the same levels with the same titles. `Overview` is a
-/// line for each: its id, how many rows, columns and boxes it has, the pushes and the moves of its best
-/// solution, or `-` for each where there is none, `untested`, `optimal` or `unsolvable`, and its
-/// title, if it has one.
+/// `Export` is a collection. Each level has a note `; TITLE`, if it has a title; its canonical
+/// rows; if solutions are wanted, `Solution: LURD` and `Pushes: K` or `Pushes: K optimal`, or
+/// `Unsolvable`; and an empty line. It can be read back as the same levels with the same titles.
 ///
-/// A write that fails is `WriteFailed` at once, after a front of the text.
+/// `Overview` is a line for each level: its id; how many rows, columns and boxes it has; the pushes
+/// and the moves of its best solution, or `-` for each if there is none; `untested`, `optimal` or
+/// `unsolvable`; and its title, if it has one.
+///
+/// Errors: `WriteFailed` as soon as a write fails; by then a first part of the text may be written.
 pub fn book_bytes<S: Alter, W: Write>(
     alloc: Global,
     book: &mut Book<S>,
@@ -90,7 +91,7 @@ pub fn book_bytes<S: Alter, W: Write>(
     answer.write(out)
 }
 
-/// The answer that has such a text.
+/// Returns the answer that has this text.
 fn told<S: Alter>(alloc: Global, book: &mut Book<S>, text: BookText) -> Result<Answer, ToolFault>
     ensures gives { KeepsBook (state S.Store book.old) (state S.Store book.new)
         (λ pages. Gives (IsBookText text pages) result) }

@@ -1,3 +1,3 @@
--- Words of public contracts: which lines of a text are nearly of a board (NearLines), and what a scan has found of them (Scans).
+-- Definitions that public contracts use: which lines of a text are nearly board lines (NearLines), and which of them a scan has found (Scans).
 pub mod NearLines
 pub mod Scans

@@ -1,4 +1,4 @@
--- Lines that are nearly of a board: one of their bytes is no character of a board.
+-- Lines that are nearly board lines: one of their bytes is not a board character.
 use Rattle.std.specs.Prelude.{ℕ, ◌+◌, List, [], ◌∷◌, ◌++◌, Option, Some, None, Bool, ◌&&◌, ◌||◌, if◌then◌else◌, ◌==◌, nat_eq, nat_le, is_none, length, count_by, position, codes}
 use Rattle.std.specs.Fmt.{decimal}
 use Rattle.std.specs.List.{list_any, starts_with}
@@ -10,27 +10,27 @@ use Rattle.sok_text.specs.declared.kind.Kind.{Kind}
 use Rattle.sok_text.specs.declared.kind.Kind.TheVariants.{Row, Packed, Note}
 use Rattle.sok_near.specs.declared.near.NearLine.{NearLine}
 
--- the most bytes of a line that is looked at
+-- the maximum number of bytes in a line that is checked
 abbrev pub near_limit : ℕ
 near_limit = 1000
 
--- a byte that is no character of a board
+-- a byte that is not a board character
 abbrev pub is_odd : ℕ → Bool
 is_odd c = is_none (cell_of c)
 
--- the byte order mark of UTF-8, which some editors put before a text
+-- the byte order mark of UTF-8, which some editors put at the front of a text
 abbrev pub order_mark : List ℕ
 order_mark = 0xEF ∷ 0xBB ∷ 0xBF ∷ []
 
--- one byte is odd, or the three of a byte order mark at the front
+-- exactly one byte is odd, or exactly the three bytes of a byte order mark at the front are
 abbrev pub has_one_odd : List ℕ → Bool
 has_one_odd line = count_by is_odd line == 1 || (count_by is_odd line == 3 && starts_with nat_eq line order_mark)
 
--- a note is nearly a line of a board: it has a wall, and one thing that is odd
+-- a note is nearly a board line: it is not too long, has a wall, and has one odd byte or a byte order mark
 abbrev pub is_near : List ℕ → Bool
 is_near line = nat_le (length line) near_limit && list_any (λ c. c == code (codes "#")) line && has_one_odd line
 
--- where the odd byte of a line of this kind stands, if the line is nearly of a board
+-- the place of the odd byte in a line of this kind, if the line is nearly a board line
 abbrev pub near_by : Kind → List ℕ → Option ℕ
 near_by Row line = None
 near_by Packed line = None
@@ -39,12 +39,12 @@ near_by Note line = if is_near line then position is_odd line else None
 unfoldable pub near_place : List ℕ → Option ℕ
 near_place line = near_by (kind_of line) line
 
--- the line with this number, if it has such a place
+-- the line with this number, as a list, if it has such a place
 abbrev pub near_at : ℕ → Option ℕ → List NearLine
 near_at n None = []
 near_at n (Some place) = record { line = n; place = place } ∷ []
 
--- those of some lines, the first of which has this number
+-- those of some lines that are nearly board lines; the first of the lines has this number
 abbrev pub near_from : ℕ → List (List ℕ) → List NearLine
 near_from n [] = []
 near_from n (line ∷ ls) = near_at n (near_place line) ++ near_from (n + 1) ls
@@ -53,6 +53,6 @@ near_from n (line ∷ ls) = near_at n (near_place line) ++ near_from (n + 1) ls
 abbrev pub near_lines : List ℕ → List NearLine
 near_lines text = near_from 1 (lines text)
 
--- how such a line is told
+-- the text that reports such a line
 abbrev pub near_words : NearLine → List ℕ
 near_words near = codes "line " ++ (decimal near.line ++ (codes ": byte " ++ (decimal near.place ++ codes " is no board character")))

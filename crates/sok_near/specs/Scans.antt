@@ -1,4 +1,4 @@
--- What a scan has found in texts of which some bytes have passed.
+-- What a scan has found, in texts of which some bytes have come.
 use Rattle.std.specs.Prelude.{ℕ, ◌≡◌, ◌+◌, ◌<◌, ◌≤◌, ◌^◌, List, ◌++◌, length, take}
 use Rattle.std.specs.Str.Lines.{lines}
 use Rattle.sok_text.specs.Lines.{IsUnended}
@@ -6,17 +6,17 @@ use Rattle.sok_near.specs.NearLines.{near_from}
 use Rattle.sok_near.specs.declared.near.NearLine.{NearLine}
 use Rattle.sok_near.specs.declared.scan.NearScan.{NearScan}
 
--- these lines were found: the first ten are told, and how many they are
+-- these lines were found: the scan has the first ten, and how many there are
 pub record HasFound (all : List NearLine) (scan : NearScan) : Type 0 where
   pub first : scan.first.items ≡ take 10 all
   pub count : scan.count ≡ length all
 
--- a text behind others in which these lines were found: all of it can be counted
+-- a text that comes after others in which these lines were found, and is short enough to be counted with them
 abbrev pub IsShort : List NearLine → List ℕ → Type 0
 IsShort before text = length before + length text < 2 ^ 63
 
--- A text has passed behind others in which some lines were found: lines that have ended, and the front of one that has not. The lines of the text, whatever
--- follows, are those that have ended, and then those from that front on.
+-- This text has come after others in which the lines `before` were found. It consists of lines that have ended, and the front of one that has not. Whatever
+-- follows, the lines of the text are those that have ended, followed by the lines from that front on.
 pub record HasPassed (before : List NearLine) (text : List ℕ) (scan : NearScan) : Type 0 where
   pub done : List (List ℕ)
   pub front : List ℕ

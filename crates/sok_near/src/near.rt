@@ -1,4 +1,4 @@
-//! Which lines are nearly of a board.
+//! Which lines are nearly board lines.
 
 ghost use Rattle.std.specs.Prelude.{◌≡◌, ◌==◌, IsSome, Some, count_by, position};
 ghost use Rattle.std.specs.List.{list_any};
@@ -10,15 +10,15 @@ use sok_text::kind::{Kind, kind_of};
 use sok_text::xsb::cell_of;
 use std::fmt;
 
-/// The most bytes of a line that is looked at.
+/// The maximum number of bytes in a line that is checked.
 const NEAR_LIMIT: usize = 1000;
 
-/// A line that is nearly of a board.
+/// A line that is nearly a board line.
 #[derive(Clone, Copy, Default, PartialEq, Eq)]
 pub struct NearLine {
-    /// Its number, from 1.
+    /// The number of the line, counted from 1.
     pub line: u64,
-    /// The place in bytes, from 0, of what keeps it from being of a board.
+    /// The place, in bytes from 0, of what keeps it from being a board line.
     pub place: usize,
 }
 
@@ -31,9 +31,9 @@ impl fmt::Display for NearLine {
     }
 }
 
-/// The place of the byte, or of the byte order mark, that alone keeps a line, without its end, from
-/// being of a board. None, where the line is no note, has no wall, has more of them, or has more
-/// than 1,000 bytes.
+/// Returns the place of the one byte, or the byte order mark, that keeps a line from being a board
+/// line. The line is given without its end. `None` if the line is not a note, has no wall, has more
+/// such bytes, or has more than 1,000 bytes.
 #[tactic(auto, unfolding(crate::specs::NearLines::near_place))]
 pub fn near_place(line: &[u8]) -> Option<usize>
     ensures place { result ≡ near_place line.now }
@@ -42,7 +42,7 @@ pub fn near_place(line: &[u8]) -> Option<usize>
     near_by(kind_of(line), line)
 }
 
-/// The same of a line of this kind.
+/// Like `near_place`, for a line of this kind.
 fn near_by(kind: Kind, line: &[u8]) -> Option<usize>
     ensures place { result ≡ near_by kind line.now }
     ensures note { IsSome result → kind ≡ Note }
@@ -53,7 +53,7 @@ fn near_by(kind: Kind, line: &[u8]) -> Option<usize>
     }
 }
 
-/// Whether a note is nearly a line of a board.
+/// Returns whether a note is nearly a board line.
 fn is_near(line: &[u8]) -> bool
     ensures { result ≡ is_near line.now }
 {
@@ -66,7 +66,8 @@ fn has_wall(line: &[u8]) -> bool
     line.iter().any(|byte| *byte == b'#')
 }
 
-/// Whether one byte is no character of a board, or the three of a byte order mark at the front.
+/// Returns whether exactly one byte is not a board character, or exactly the three bytes of a byte
+/// order mark at the front are not.
 fn has_one_odd(line: &[u8]) -> bool
     ensures { result ≡ has_one_odd line.now }
 {
@@ -86,7 +87,7 @@ fn odd_place(line: &[u8]) -> Option<usize>
     line.iter().position(|byte| is_odd(*byte))
 }
 
-/// Whether a byte is no character of a board.
+/// Returns whether a byte is not a board character.
 fn is_odd(byte: u8) -> bool
     ensures { result ≡ is_odd byte }
 {

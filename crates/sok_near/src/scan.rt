@@ -1,5 +1,5 @@
-//! The lines of a text that are nearly of a board. Its bytes come in pieces, and none is kept but
-//! those of one line.
+//! The search for lines that are nearly board lines. The bytes of a text come in pieces, and only
+//! those of one line are kept.
 
 ghost use Rattle.std.specs.Prelude.{ℕ, ◌≡◌, ◌+◌, ◌<◌, ◌^◌, ◌∷◌, ◌++◌, [], List, length};
 ghost use Rattle.sok_near.specs.NearLines.{near_at, near_lines};
@@ -10,11 +10,11 @@ use crate::near::{NearLine, near_place};
 use arrayvec::ArrayVec;
 use sok_text::line::without_return;
 
-/// Looks for lines that are nearly of a board, in one text after another.
+/// A search for lines that are nearly board lines, in one text after another.
 #[derive(Drop)]
 pub struct NearScan {
-    /// The first bytes of the line that has not ended: those of a line that is looked at, and two
-    /// more, which are a CR of its end, and one too many.
+    /// The first bytes of the line that has not ended: 1,000 bytes of a line that is checked, and
+    /// two more, for the CR at its end and for one byte too many.
     front: ArrayVec<u8, 1002>,
     /// How many lines of the text have ended.
     ended: u64,
@@ -23,7 +23,7 @@ pub struct NearScan {
 }
 
 impl NearScan {
-    /// A scan of which no byte has come.
+    /// Makes a scan to which no byte has come.
     pub fn new() -> NearScan
         ensures { HasPassed [] [] result }
     {
@@ -35,7 +35,7 @@ impl NearScan {
         }
     }
 
-    /// Looks at the next bytes of the text.
+    /// Scans the next bytes of the text.
     pub fn pass(&mut self, bytes: &[u8])
         ensures { (before : List NearLine) (text : List ℕ) → IsShort before (text ++ bytes.now)
             → HasPassed before text self.old → HasPassed before (text ++ bytes.now) self.new }
@@ -45,7 +45,7 @@ impl NearScan {
         }
     }
 
-    /// Ends the text. What comes next is another one, whose lines are counted anew.
+    /// Ends the text. The next bytes belong to another text, whose lines are counted from 1 again.
     pub fn end(&mut self)
         ensures found { (before : List NearLine) (text : List ℕ) → IsShort before text
             → HasPassed before text self.old → HasFound (before ++ near_lines text) self.new }
@@ -58,14 +58,14 @@ impl NearScan {
         self.ended = 0;
     }
 
-    /// The first ten of the lines that were found.
+    /// Returns the first ten of the lines that were found.
     pub fn first(&self) -> &[NearLine]
         ensures { result.now ≡ self.now.first.items }
     {
         self.first.as_slice()
     }
 
-    /// How many lines were found.
+    /// Returns how many lines were found.
     pub fn count(&self) -> u64
         ensures { result ≡ self.now.count }
     {
@@ -84,7 +84,7 @@ impl NearScan {
         let _ = self.front.try_push(byte);
     }
 
-    /// Ends a line, and notes it where it is nearly of a board.
+    /// Ends a line, and records it if it is nearly a board line.
     fn end_line(&mut self, place: Option<usize>)
         ensures anew { self.new.front.items ≡ [] }
         ensures ended { self.old.ended + 1 < 2 ^ 64 → self.new.ended ≡ self.old.ended + 1 }

@@ -1,5 +1,5 @@
--- Words of public contracts: what is answered to a text that is played (Plays), what is drawn of a level behind it (Drawings), and what is told of each
--- level of a collection (Listing).
+-- Definitions that public contracts use: the answers to a text that is played (Plays), the drawing of a level after it (Drawings), and the line for each level
+-- of a collection (Listing).
 pub mod Drawings
 pub mod Listing
 pub mod Plays

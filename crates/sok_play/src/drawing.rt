@@ -1,4 +1,4 @@
-//! The drawing of a level as it stands after a text of letters.
+//! Drawing a level as it is after a text of letters.
 
 ghost use Rattle.std.specs.Prelude.{ℕ, List};
 ghost use Rattle.sok_engine.specs.Inputs.{OfReader, Within};
@@ -16,15 +16,13 @@ use sok_text::print::print_level;
 use std::alloc::Global;
 use std::io::{Read, Write};
 
-/// Draws the n-th level of a collection, counted from 1, as it stands after a text of letters. An
-/// empty text draws the start. Written is the canonical text of the level that stands there, at
-/// status 0.
+/// Draws the n-th level of a collection, counted from 1, as it is after a text of letters. An empty
+/// text draws the start. Writes the canonical text of the level in that position, with status 0.
 ///
-/// Where there is no such drawing nothing is written, and the fault is the first of these, as for
-/// `replay_bytes`: `ReadFailed` or `TooMuch`; `NoSuchLevel` or another fault of the level;
-/// `BadLetter` or `TooLong`; `Blocked`. A write that fails is `WriteFailed` at once, after a front
-/// of the drawing. Of a reader that does not tell which bytes it holds, this is promised of some
-/// bytes.
+/// Errors, in this order, with nothing written: `ReadFailed` or `TooMuch`; `NoSuchLevel` or another
+/// fault of the level; `BadLetter` or `TooLong`; `Blocked`. They are those of `replay_bytes`.
+/// `WriteFailed` as soon as a write fails; by then a first part of the drawing may be written. For
+/// a reader whose remaining bytes are unknown, this is promised for some bytes.
 pub fn draw_bytes<R: Read, W: Write>(
     alloc: Global,
     input: &mut R,
@@ -40,7 +38,7 @@ pub fn draw_bytes<R: Read, W: Write>(
     answer.write(out)
 }
 
-/// The drawing of a level of a collection after a text.
+/// Returns the drawing of a level of a collection after a text.
 fn drawn(alloc: Global, collection: &[u8], n: usize, text: &[u8]) -> Result<Answer, ToolFault>
     ensures { Gives (IsDrawing n text.now collection.now) result }
 {
@@ -51,14 +49,14 @@ fn drawn(alloc: Global, collection: &[u8], n: usize, text: &[u8]) -> Result<Answ
     Ok(Answer::new(print_level(alloc, &standing)?, 0))
 }
 
-/// What is drawn after letters is, by the definition of collections, one level: it has the walls
-/// and the goals of the level that they were played on, and its start is the position to which they
-/// lead. A row there ends where its last square is that is no floor.
+/// A drawing can be read back. By the definition of collections, it is one level: it has the walls
+/// and the goals of the level that was played, and its start is the position after the letters. A
+/// row ends with its last square that is not floor.
 pub fn drawings_stand()
     ensures { DrawingsStand }
 {}
 
-/// A text on a level of a collection has one drawing at most.
+/// A text on a level of a collection has at most one drawing.
 pub fn drawings_have_one_answer()
     ensures { (limit n : ℕ) (text bytes : List ℕ) → HasOne (Within limit (IsDrawing n text) bytes) }
 {}

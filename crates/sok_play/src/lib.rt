@@ -1,13 +1,13 @@
-//! The engines that play a text on a level, that draw the level behind it, and that list the levels
-//! of a collection.
+//! The engines that play a text on a level, draw the level after it, and list the levels of a
+//! collection.
 //!
 //! | Module | What it holds |
 //! |---|---|
-//! | `drawing` | the drawing of a level after a text of letters |
-//! | `listing` | the list of a collection's levels |
+//! | `drawing` | drawing a level after a text of letters |
+//! | `listing` | listing the levels of a collection |
 //! | `measure` | the size of a level, its boxes and its goals (private) |
-//! | `play` | the replay of a text of letters on a level |
-//! | `standing` | a level as it stands after letters (private) |
+//! | `play` | playing a text of letters on a level |
+//! | `standing` | a level as it is after letters (private) |
 #![tactic(auto)]
 
 pub mod drawing;

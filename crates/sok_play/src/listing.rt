@@ -1,4 +1,4 @@
-//! The list of a collection's levels.
+//! Listing the levels of a collection.
 
 ghost use Rattle.std.specs.Prelude.{◌≡◌, ◌≢◌, ◌++◌, ℕ, List, Option, Ok, Err, IfOk};
 ghost use Rattle.std.specs.Prelude.{MatchResult, OnOk, codes, option_map, string_bytes};
@@ -23,15 +23,14 @@ use sok_text::collection::Collection;
 use std::alloc::{AllocError, Global};
 use std::io::{Read, Write};
 
-/// Tells of each level of a collection, in order, one line with LF: its number, from 1, then how
-/// many rows, columns, boxes and goals it has, and its title where it has one; or its number and
-/// its fault. Columns are those of the longest row, without floor at its end, boxes and goals are
-/// counted outside the area too, and a title is written as its bytes.
+/// Writes a line for each level of a collection, in order: its number, counted from 1; how many
+/// rows, columns, boxes and goals it has; and its title, if it has one. The line of a faulty level
+/// is its number and its fault. The columns are those of the longest row, without floor at its end.
+/// Boxes and goals outside the area are counted, too. A title is written as its bytes.
 ///
-/// The status is 0, also where levels are faulty. Where there is no answer nothing is written, and
-/// the fault is `ReadFailed` or `TooMuch`. A write that fails is `WriteFailed` at once, after a
-/// front of the lines. Of a reader that does not tell which bytes it holds, this is promised of
-/// some bytes.
+/// The status is 0, also if levels are faulty. Errors: `ReadFailed` or `TooMuch`, with nothing
+/// written; `WriteFailed` as soon as a write fails; by then a first part of the lines may be
+/// written. For a reader whose remaining bytes are unknown, this is promised for some bytes.
 pub fn list_bytes<R: Read, W: Write>(
     alloc: Global,
     input: &mut R,
@@ -45,7 +44,7 @@ pub fn list_bytes<R: Read, W: Write>(
     answer.write(out)
 }
 
-/// The answer to a collection.
+/// Returns the answer to a collection.
 fn listed(alloc: Global, bytes: &[u8]) -> Result<Answer, ToolFault>
     ensures { MatchResult result
         (λ answer. IsListing bytes.now (Ok answer))
@@ -56,7 +55,7 @@ fn listed(alloc: Global, bytes: &[u8]) -> Result<Answer, ToolFault>
     Ok(Answer::new(text, 0))
 }
 
-/// The lines of all levels.
+/// Returns the lines of all levels.
 fn lines(alloc: Global, collection: &Collection<'_>) -> Result<Vec<u8>, Memory>
     ensures { IfOk result (λ text. text.items ≡ lines_from 1 collection.now) }
 {
@@ -67,7 +66,7 @@ fn lines(alloc: Global, collection: &Collection<'_>) -> Result<Vec<u8>, Memory>
     Ok(text)
 }
 
-/// Adds the line of a level to a text.
+/// Appends the line of a level to `text`.
 fn push_line(
     alloc: Global,
     text: &mut Vec<u8>,
@@ -84,7 +83,7 @@ fn push_line(
     }
 }
 
-/// Adds the line of a level that has no fault.
+/// Appends the line of a level that has no fault.
 fn push_level(
     alloc: Global,
     text: &mut Vec<u8>,
@@ -102,7 +101,7 @@ fn push_level(
     Ok(())
 }
 
-/// The number of a level, and its size, boxes and goals.
+/// Returns the number of a level, and its size, boxes and goals.
 fn numbers(alloc: Global, n: usize, level: &Level) -> Result<String, AllocError>
     ensures { IfOk result (λ numbers. string_bytes numbers
         ≡ decimal n ++ codes " " ++ level_numbers level.now) }
@@ -114,7 +113,7 @@ fn numbers(alloc: Global, n: usize, level: &Level) -> Result<String, AllocError>
     format!(in alloc; "{n} {rows} {columns} {boxes} {goals}")
 }
 
-/// Adds a title behind a space, if there is one.
+/// Appends a space and the title, if there is one.
 fn push_title(text: &mut Vec<u8>, title: Option<&[u8]>) -> Result<(), Memory>
     ensures { OnOk result (text.new.items ≡ text.old.items
         ++ title_words (option_map (λ t. t.now) title.entry)) }
@@ -127,7 +126,7 @@ fn push_title(text: &mut Vec<u8>, title: Option<&[u8]>) -> Result<(), Memory>
     Ok(())
 }
 
-/// Adds the line of a faulty level, unless memory was refused.
+/// Appends the line of a faulty level, unless memory was refused.
 fn push_fault(alloc: Global, text: &mut Vec<u8>, n: usize, fault: LevelFault) -> Result<(), Memory>
     ensures { OnOk result ((fault ≢ level.Memory) × ((title : Option (List ℕ))
         → text.new.items ≡ text.old.items ++ level_line n (Err fault) title)) }
@@ -142,7 +141,7 @@ fn push_fault(alloc: Global, text: &mut Vec<u8>, n: usize, fault: LevelFault) ->
     }
 }
 
-/// The line of a faulty level.
+/// Returns the line of a faulty level.
 fn fault_line(alloc: Global, n: usize, fault: LevelFault) -> Result<String, AllocError>
     ensures { IfOk result (λ line. (title : Option (List ℕ))
         → string_bytes line ≡ level_line n (Err fault) title) }
@@ -151,7 +150,7 @@ fn fault_line(alloc: Global, n: usize, fault: LevelFault) -> Result<String, Allo
     format!(in alloc; "{n} {told}\n")
 }
 
-/// A collection has one listing at most.
+/// A collection has at most one listing.
 pub fn listings_have_one_answer()
     ensures { (limit : ℕ) (bytes : List ℕ) → HasOne (Within limit IsListing bytes) }
 {}

@@ -8,14 +8,14 @@ ghost use Rattle.sok_play.specs.Listing.{width_of};
 use sok_rules::cell::Cell;
 use sok_rules::level::Level;
 
-/// How many rows there are.
+/// Returns how many rows there are.
 pub(crate) fn height(level: &Level) -> usize
     ensures { result ≡ length level.now }
 {
     level.rows().len()
 }
 
-/// The length of the longest row.
+/// Returns the length of the longest row.
 pub(crate) fn width(level: &Level) -> usize
     ensures { result ≡ width_of level.now }
 {
@@ -23,14 +23,14 @@ pub(crate) fn width(level: &Level) -> usize
     rows.iter().fold(0, |most: usize, row| most.max(row.len()))
 }
 
-/// How many boxes there are, inside the area and outside.
+/// Returns how many boxes there are, inside and outside the area.
 pub(crate) fn boxes(level: &Level) -> usize
     ensures { result ≡ count_in is_box level.now }
 {
     boxes_of(level.rows())
 }
 
-/// How many goals there are, with a box or without.
+/// Returns how many goals there are, with a box or without.
 pub(crate) fn goals(level: &Level) -> usize
     ensures { result ≡ count_in is_goal level.now }
 {

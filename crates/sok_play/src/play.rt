@@ -1,4 +1,4 @@
-//! The replay of a text of letters on a level of a collection.
+//! Playing a text of letters on a level of a collection.
 
 ghost use Rattle.std.specs.Prelude.{◌≡◌, ℕ, List, IfOk, string_bytes};
 ghost use Rattle.sok_engine.specs.Inputs.{OfReader, Within};
@@ -17,8 +17,8 @@ use std::alloc::{AllocError, Global};
 use std::io::{Read, Write};
 
 /// Plays a text of letters on the first level of a collection. The text is the first line of the
-/// input, up to LF, without a CR before the LF. The collection is what follows. What is written,
-/// and which fault comes first, is as for `replay_bytes`.
+/// input, up to an LF, without a CR before the LF. The collection follows it. The answers and the
+/// order of faults are those of `replay_bytes`.
 pub fn play_bytes<R: Read, W: Write>(
     alloc: Global,
     input: &mut R,
@@ -32,13 +32,13 @@ pub fn play_bytes<R: Read, W: Write>(
     answer.write(out)
 }
 
-/// Plays a text of letters on the n-th level of a collection, counted from 1. Written is `solved
-/// PUSHES MOVES` with LF, at status 0, or `open PUSHES MOVES`, at status 1.
+/// Plays a text of letters on the n-th level of a collection, counted from 1. Writes the line
+/// `solved PUSHES MOVES`, with status 0, or `open PUSHES MOVES`, with status 1.
 ///
-/// Where there is no such answer nothing is written, and the fault is the first of these:
-/// `ReadFailed` or `TooMuch`; `NoSuchLevel` or another fault of the level; `BadLetter` or
-/// `TooLong`; `Blocked`. A write that fails is `WriteFailed` at once, after a front of the line. Of
-/// a reader that does not tell which bytes it holds, this is promised of some bytes.
+/// Errors, in this order, with nothing written: `ReadFailed` or `TooMuch`; `NoSuchLevel` or another
+/// fault of the level; `BadLetter` or `TooLong`; `Blocked`. `WriteFailed` as soon as a write fails;
+/// by then a first part of the line may be written. For a reader whose remaining bytes are unknown,
+/// this is promised for some bytes.
 pub fn replay_bytes<R: Read, W: Write>(
     alloc: Global,
     input: &mut R,
@@ -54,7 +54,7 @@ pub fn replay_bytes<R: Read, W: Write>(
     answer.write(out)
 }
 
-/// The answer to a text before a collection.
+/// Returns the answer to a text that is followed by a collection.
 fn played(alloc: Global, input: &[u8]) -> Result<Answer, ToolFault>
     ensures { Gives (IsPlay input.now) result }
 {
@@ -62,7 +62,7 @@ fn played(alloc: Global, input: &[u8]) -> Result<Answer, ToolFault>
     replayed(alloc, collection, 1, text)
 }
 
-/// The answer to a text on a level of a collection.
+/// Returns the answer to a text on a level of a collection.
 fn replayed(alloc: Global, collection: &[u8], n: usize, text: &[u8]) -> Result<Answer, ToolFault>
     ensures { Gives (IsReplay n text.now collection.now) result }
 {
@@ -73,7 +73,7 @@ fn replayed(alloc: Global, collection: &[u8], n: usize, text: &[u8]) -> Result<A
     Ok(Answer::new(line.into_bytes(), outcome_status(tally.solved)))
 }
 
-/// The line that tells a tally.
+/// Returns the line of a tally.
 fn tally_line(alloc: Global, tally: Tally) -> Result<String, AllocError>
     ensures { IfOk result (λ line. string_bytes line ≡ tally_line tally) }
 {
@@ -93,12 +93,12 @@ fn outcome_status(solved: bool) -> u8
     if solved { 0 } else { 1 }
 }
 
-/// A text on a level of a collection has one answer at most.
+/// A text on a level of a collection has at most one answer.
 pub fn replays_have_one_answer()
     ensures { (limit n : ℕ) (text bytes : List ℕ) → HasOne (Within limit (IsReplay n text) bytes) }
 {}
 
-/// An input has one answer at most.
+/// An input has at most one answer.
 pub fn inputs_have_one_answer()
     ensures { (limit : ℕ) (bytes : List ℕ) → HasOne (Within limit IsPlay bytes) }
 {}

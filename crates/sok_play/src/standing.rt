@@ -1,4 +1,4 @@
-//! A level as it stands after letters.
+//! A level as it is after letters.
 
 ghost use Rattle.std.specs.Prelude.{◌≡◌, ◌≤◌, ◌<◌, [], IfOk, IsSome, MatchResult, Some, length};
 ghost use Rattle.std.specs.Prelude.{slice_index_or};
@@ -14,7 +14,7 @@ use sok_rules::level::Level;
 use sok_rules::session::Session;
 use std::alloc::Global;
 
-/// A session in which a list of letters is played.
+/// Returns a session in which these letters were played. Fails if one of them is not legal.
 pub(crate) fn session_after(
     alloc: Global,
     level: &Level,
@@ -32,7 +32,7 @@ pub(crate) fn session_after(
     Ok(session)
 }
 
-/// A level as it stands in a session of it.
+/// Returns the level as it is in a session of it.
 pub(crate) fn level_now(alloc: Global, level: &Level, session: &Session) -> Result<Level, Memory>
     requires rows { session.now.rows ≡ level.now }
     requires legal { IsSome (position_of session.now) }
@@ -45,7 +45,7 @@ pub(crate) fn level_now(alloc: Global, level: &Level, session: &Session) -> Resu
     Ok(Level::new(rows).unwrap())
 }
 
-/// A row of the level of a session, as it stands there.
+/// Returns a row of the session's level as it is now.
 fn row_now(alloc: Global, session: &Session, row: usize, width: usize) -> Result<Vec<Cell>, Memory>
     requires few_rows { length session.now.rows ≤ size_limit }
     requires few_columns { width ≤ size_limit }

@@ -1,11 +1,11 @@
--- A row that is exchanged for another: the last takes its place, and a new one is the last.
+-- The exchange of a row: the last row takes its place, and a new one becomes the last.
 use Rattle.std.specs.Prelude.{ℕ, ◌≡◌, ◌<◌, ◌≤◌, ◌+◌, ◌*◌, List, Bool, IsTrue, false, ◌==◌, if◌then◌else◌, length, slice_index}
 use Rattle.sok_price.specs.declared.costs.Costs.{Costs}
 use Rattle.sok_price.specs.declared.search.PathSearch.{PathSearch}
 use Rattle.sok_price.specs.Costs.{cost_of, AreCosts}
 use Rattle.sok_price.specs.Searches.{IsReady, IsSeen, ReachesNoOther, growth_of}
 
--- where the element of a place was before: the last one takes the place of the one that is exchanged
+-- where the element at an index was before an exchange
 unfoldable pub moved_from : ℕ → ℕ → ℕ → ℕ
 moved_from row last k = if k == row then last else k
 
@@ -23,12 +23,12 @@ pub record IsWhole (costs : Costs) (rows : List ℕ) (search : PathSearch) : Typ
   pub ready : IsReady (cost_of costs rows) (length rows) costs.goals (growth_of search)
   pub whole : length search.goal_of.items ≡ length rows
 
--- a row of a matching, and the row of a table for which it is exchanged
+-- the index of a row of a matching, and the row of the table that replaces it
 pub record IsExchange (costs : Costs) (rows : List ℕ) (row entry : ℕ) : Type 0 where
   pub within : row < length rows
   pub below : (entry + 1) * costs.goals ≤ length costs.entries.items
 
--- how a search ends for all rows: with a goal for each, or with a tree of rows that reach too few
+-- how a search for all rows ends: with a goal for each, or with a tree of rows that reach too few
 pub record Tells (costs : Costs) (rows : List ℕ) (search : PathSearch) (found : Bool) : Type 0 where
   pub whole : IsTrue found → IsWhole costs rows search
   pub tree : found ≡ false → IsSeen (cost_of costs rows) (length rows) costs.goals (growth_of search)

@@ -20,44 +20,44 @@ pub record AreTabled (b : BoardView) (goals : ℕ) (entries : List (Option ℕ))
   pub spare : (goal : ℕ) → goal < goals → cost_in goals entries (length b.area) goal ≡ Some 0
   pub small : AreSmall entries
 
--- rows of boxes on squares before an end, no two of them on one, and spare rows
+-- rows of boxes on squares below `end`, no two on the same square, and spare rows
 pub record AreRows (end : ℕ) (rows : List ℕ) : Type 0 where
   pub within : All (λ row. row ≤ end) rows
   pub apart : (i j : ℕ) → i < j → j < length rows → slice_index rows i < end → slice_index rows i ≢ slice_index rows j
 
--- each row that is not spare is that of a box of a list
+-- each row that is not spare belongs to a box of a list
 abbrev pub AreOf : ℕ → List ℕ → List ℕ → Type 0
 AreOf end rows boxes = (k : ℕ) → k < length rows → slice_index rows k < end → Contains boxes (slice_index rows k)
 
--- the rows are those of the boxes of a list, all of them, and spare rows
+-- the rows are those of all boxes of a list, and spare rows
 pub record AreExactly (end : ℕ) (rows boxes : List ℕ) : Type 0 where
   pub of : AreOf end rows boxes
   pub each : All (Contains rows) boxes
 
--- rows of all boxes of a list in order, and then spare rows
+-- the rows of all boxes of a list in order, followed by spare rows
 pub record AreListed (end members : ℕ) (boxes rows : List ℕ) : Type 0 where
   pub whole : length rows ≡ members
   pub front : (k : ℕ) → k < length boxes → slice_index rows k ≡ slice_index boxes k
   pub back : (k : ℕ) → length boxes ≤ k → k < members → slice_index rows k ≡ end
 
--- marks of the first squares of a list, where they are marked at all, and of no others
+-- exactly the first `end` squares of a list are marked; squares beyond the marks have none
 pub record AreMarksOf (marks : List Bool) (list : List ℕ) (end : ℕ) : Type 0 where
   pub each : (k : ℕ) → k < end → slice_index list k < length marks → slice_index_or marks (slice_index list k) false ≡ true
   pub only : (square : ℕ) → slice_index_or marks square false ≡ true → (k : ℕ) × (k < end) × (slice_index list k ≡ square)
 
--- a row is to be exchanged for another that is not there
+-- a row is exchanged for a spare row, or for one that is not present
 pub record IsChange (end : ℕ) (rows : List ℕ) (row entry : ℕ) : Type 0 where
   pub within : row < length rows
   pub below : entry ≤ end
   pub fresh : entry < end → (k : ℕ) → k < length rows → slice_index rows k ≢ entry
 
--- other rows of boxes and spare rows, as many as there were
+-- rows of boxes and spare rows, as many as before
 pub record AreSet (end : ℕ) (costs : Costs) (before rows : List ℕ) : Type 0 where
   pub whole : length rows ≡ length before
   pub shaped : AreCosts costs rows
   pub are_rows : AreRows end rows
 
--- a row for each goal of a board, those of some boxes and spare rows
+-- a row for each goal of a board: those of some boxes, and spare rows
 pub record AreKept (b : BoardView) (costs : Costs) (rows boxes : List ℕ) : Type 0 where
   pub tabled : AreTabled b costs.goals costs.entries.items
   pub square : length rows ≡ costs.goals
@@ -66,14 +66,14 @@ pub record AreKept (b : BoardView) (costs : Costs) (rows boxes : List ℕ) : Typ
   pub exist : All (λ square. square < length b.area) boxes
   pub rising : IsStrictlyIncreasing boxes
 
--- lists of prices and scratch lists with an entry for each row or goal, and room for a tree and the rows' goals
+-- lists of prices and buffers with an entry for each row or goal, and room for a tree and for the goals of the rows
 pub record IsShaped (members goals : ℕ) (search : PathSearch) : Type 0 where
   pub a_price_a_box : length search.u.items ≡ members
   pub a_price_a_goal : length search.v.items ≡ goals
   pub roomy : IsRoomy goals (growth_of search)
   pub room : HasRoom members search
 
--- rows of a table with prices, a matching if it is said so, that are to be set to the boxes of a list
+-- rows of a table with prices, and a matching of them if `matched` is set; they can be set to the boxes of a list
 pub record CanSettle (end : ℕ) (boxes : List ℕ) (matched : Bool) (marks : List Bool) (costs : Costs) (rows : List ℕ) (search : PathSearch) : Type 0 where
   pub costs_are : AreCosts costs rows
   pub are_rows : AreRows end rows
@@ -83,13 +83,13 @@ pub record CanSettle (end : ℕ) (boxes : List ℕ) (matched : Bool) (marks : Li
   pub entries : (end + 1) * costs.goals ≤ length costs.entries.items
   pub exist : All (λ square. square < end) boxes
 
--- a matching of the boxes of a list, whose prices are low enough for one more exchange
+-- a matching of the boxes of a list, with prices that are low enough for one more exchange
 pub record IsSettled (end : ℕ) (boxes : List ℕ) (costs : Costs) (rows : List ℕ) (search : PathSearch) : Type 0 where
   pub whole : IsWhole costs rows search
   pub low : search.floor ≤ kept_floor_limit
   pub exactly : AreExactly end rows boxes
 
--- the prices of some boxes less one amount, and their goals, by the places of their rows
+-- the prices of some boxes, each less an amount, and their goals, by the indices of their rows
 pub record AreRead (amount : ℕ) (rows : List ℕ) (search : PathSearch) (boxes u goal_of : List ℕ) : Type 0 where
   pub places : List ℕ
   pub within : All (λ k. k < length rows) places
@@ -97,16 +97,16 @@ pub record AreRead (amount : ℕ) (rows : List ℕ) (search : PathSearch) (boxes
   pub prices_are : u ≡ map (λ k. slice_index search.u.items k - amount) places
   pub goals_are : goal_of ≡ map (λ k. slice_index search.goal_of.items k) places
 
--- what is told of boxes: a number that some prices prove, and None where there is a crowd
+-- a number that some prices prove as a bound, or None if there is a crowd
 abbrev pub IsBounded : BoardView → List ℕ → Option ℕ → Type 0
 IsBounded b boxes None = (members : List ℕ) × IsCrowd b boxes members
 IsBounded b boxes (Some n) = (u v : List ℕ) × Priced b boxes u v n
 
--- an assignment of the boxes costs a number
+-- some assignment of the boxes has this cost
 abbrev pub IsCost : BoardView → List ℕ → ℕ → Type 0
 IsCost b boxes n = (goal_of distances : List ℕ) × IsAssignment b boxes goal_of distances × (sum distances ≡ n)
 
--- a box of a list that has the rows' boxes is moved, by its row
+-- one box of a list is moved, which is given by the index of its row
 pub record IsMovedTo (end : ℕ) (rows : List ℕ) (at to : ℕ) (boxes after : List ℕ) : Type 0 where
   pub within : at < length rows
   pub exactly : AreExactly end rows boxes

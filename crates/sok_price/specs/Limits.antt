@@ -1,11 +1,11 @@
--- How high prices may be, and how far apart.
+-- Limits of prices, and of how far a search raises them.
 use Rattle.std.specs.Prelude.{ℕ}
 
--- the highest price that is answered
+-- the highest price in an answer
 abbrev pub price_limit : ℕ
 price_limit = 1000000
 
--- the highest floor from which a row of a matching that is kept is exchanged: above it the matching is made anew
+-- the highest floor from which a row of a kept matching is exchanged: above it the matching is made anew
 abbrev pub kept_floor_limit : ℕ
 kept_floor_limit = 268435456
 

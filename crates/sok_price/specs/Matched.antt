@@ -1,4 +1,4 @@
--- A matching that is kept, as it is seen from outside.
+-- A kept matching, as contracts see it.
 use Rattle.std.specs.Prelude.{ℕ, ◌≡◌, ◌≤◌, ◌<◌, ◌+◌, ◌*◌, List, Option, Some, None, Bool, true, All, Contains, length, sum, ◌^◌}
 use Rattle.std.specs.List.Sorted.{IsStrictlyIncreasing}
 use Rattle.sok_board.specs.Area.{BoardView}
@@ -11,7 +11,7 @@ use Rattle.sok_price.specs.Kept.{AreExactly, AreRows, AreTabled, IsBounded, IsCo
 use Rattle.sok_price.specs.Limits.{kept_floor_limit}
 use Rattle.sok_price.specs.Searches.{KeepsRoom, growth_of}
 
--- what is seen of a matching: its costs, its prices and goals, and whether they are those of boxes
+-- its costs, rows, prices and goals, and whether the rows are matched
 pub record KeptMatching : Type 0 where
   pub squares : ℕ
   pub costs : Costs
@@ -19,7 +19,7 @@ pub record KeptMatching : Type 0 where
   pub search : PathSearch
   pub matched : Bool
 
--- what always holds of a matching: where all rows have goals, no price is near its limit
+-- the invariant of a matching: the lists have their lengths, and if all rows have goals, no price is near its limit
 pub record IsSound (squares : ℕ) (costs : Costs) (rows : List ℕ) (search : PathSearch) (matched : Bool) (trial : PathSearch) (trial_rows : List ℕ)
     (marks : List Bool) : Type 0 where
   pub shaped : AreCosts costs rows
@@ -39,13 +39,13 @@ pub record Serves (b : BoardView) (kept : KeptMatching) : Type 0 where
   pub squares : kept.squares ≡ length b.area
   pub tabled : AreTabled b kept.costs.goals kept.costs.entries.items
 
--- a matching of some boxes of a board
+-- a matching of these boxes of a board
 pub record Holds (b : BoardView) (boxes : List ℕ) (kept : KeptMatching) : Type 0 where
   pub serves : Serves b kept
   pub matched : kept.matched ≡ true
   pub exactly : AreExactly (length b.area) kept.rows boxes
 
--- a matching of all rows, which are those of some boxes, no two of them on a square
+-- a matching of all rows, which are those of these boxes, no two on the same square
 pub record IsMatchedTo (boxes : List ℕ) (kept : KeptMatching) : Type 0 where
   pub matched : kept.matched ≡ true
   pub whole : IsWhole kept.costs kept.rows kept.search
@@ -55,12 +55,12 @@ pub record IsMatchedTo (boxes : List ℕ) (kept : KeptMatching) : Type 0 where
   pub exist : All (λ square. square < kept.squares) boxes
   pub rising : IsStrictlyIncreasing boxes
 
--- what is told of boxes: the least total, that prices prove and an assignment costs, and None where there is a crowd
+-- the least total, which prices prove and an assignment attains, or None if there is a crowd
 abbrev pub TellsLeast : BoardView → List ℕ → Option ℕ → Type 0
 TellsLeast b boxes None = IsBounded b boxes None
 TellsLeast b boxes (Some total) = IsBounded b boxes (Some total) × IsCost b boxes total
 
--- a box of a matching may be moved to a square where no box is
+-- a box of a matching can be moved to a square without a box
 pub record CanMove (kept : KeptMatching) (from to : ℕ) : Type 0 where
   pub b : BoardView
   pub boxes : List ℕ
@@ -70,12 +70,12 @@ pub record CanMove (kept : KeptMatching) (from to : ℕ) : Type 0 where
   pub free : Contains boxes to → ⊥
   pub within : to < length b.area
 
--- prices and goals of one search in another, which keeps its scratch lists
+-- the prices and goals of one search are copied to another, which keeps its buffers
 pub record IsCopied (from before after : PathSearch) : Type 0 where
   pub same : growth_of after ≡ record (growth_of before) { u = from.u.items; v = from.v.items; goal_of = from.goal_of.items; floor = from.floor }
   pub room : KeepsRoom before after
 
--- prices whose sums fit, the rows' no less than the goals' and not far above
+-- prices whose sums fit: that of the rows below 2 ^ 64, and at least that of the goals, and less than 2 ^ 32 above it
 pub record HasWorth (search : PathSearch) : Type 0 where
   pub fits : sum search.u.items < 2 ^ 64
   pub covered : sum search.v.items ≤ sum search.u.items

@@ -34,22 +34,22 @@ growth_of search = record {
   floor = search.floor;
 }
 
--- room for a tree of all boxes and for a goal for each
+-- room for a tree of all boxes, and for the goals of all
 pub record HasRoom (members : ℕ) (search : PathSearch) : Type 0 where
   pub tree : members ≤ vec_capacity search.branches
   pub matching : members ≤ vec_capacity search.goal_of
 
--- room that a search had is there still
+-- the room of a search is kept
 abbrev pub KeepsRoom : PathSearch → PathSearch → Type 0
 KeepsRoom before after = (members : ℕ) → HasRoom members before → HasRoom members after
 
--- scratch lists with an entry for each goal
+-- buffers with an entry for each goal
 pub record IsRoomy (goals : ℕ) (g : Growth) : Type 0 where
   pub taken : length g.taken ≡ goals
   pub slacks : length g.slacks ≡ goals
   pub takers : length g.takers ≡ goals
 
--- a search for a goal for the next box, of whose tree the first boxes are looked at
+-- a search for a goal for the next box; the first `seen` boxes of its tree have been scanned
 pub record IsGrowing (cost : Costing) (members goals seen : ℕ) (g : Growth) : Type 0 where
   pub matched : IsMatched cost members goals g.floor g.u g.v g.goal_of
   pub roomy : IsRoomy goals g
@@ -68,14 +68,14 @@ pub record IsGrowing (cost : Costing) (members goals seen : ℕ) (g : Growth) : 
   pub ahead : (goal : ℕ) → goal < goals → is_marked g.taken goal ≡ false
       → (branch_at g.branches (length g.branches - 1)).rise ≤ (slack_at g.slacks goal).rise
 
--- a search of whose tree each box is looked at, and one of whose tree all but the last are
+-- every box of the tree has been scanned; or every box but the last
 abbrev pub IsSeen : Costing → ℕ → ℕ → Growth → Type 0
 IsSeen cost members goals g = IsGrowing cost members goals (length g.branches) g
 
 abbrev pub IsAhead : Costing → ℕ → ℕ → Growth → Type 0
 IsAhead cost members goals g = IsGrowing cost members goals (length g.branches - 1) g
 
--- a search that has begun: a tree of the next box alone, of which nothing is looked at
+-- a search that has begun: the next box is the whole tree, and has not been scanned
 pub record IsBegun (g after : Growth) : Type 0 where
   pub same : after ≡ record g {
     branches = record { member = length g.goal_of; goal = 0; parent = 0; rise = 0 } ∷ [];
@@ -86,26 +86,26 @@ pub record IsBegun (g after : Growth) : Type 0 where
   pub whole : length after.takers ≡ length g.takers
   pub tells : TellTakers g.goal_of after.takers
 
--- a search after the prices of its tree are raised by what is left of a rise behind each branch
+-- the prices of the tree are raised: those of each branch by `total` less its rise
 pub record IsRaised (total : ℕ) (g : Growth) (u v : List ℕ) : Type 0 where
   pub boxes : AreRaised (λ branch. branch.member) total g.branches 0 (length g.branches) g.u u
   pub goals : AreRaised (λ branch. branch.goal) total g.branches 1 (length g.branches) g.v v
 
--- a goal and the box that has it join a tree
+-- a goal and the box that has it are added to a tree
 unfoldable pub joined : Near → ℕ → Growth → Growth
 joined near member g = record g {
   branches = g.branches ++ record { member = member; goal = near.goal; parent = near.slack.from; rise = near.slack.rise } ∷ [];
   taken = slice_set g.taken near.goal true;
 }
 
--- a goal that no box has lies at an exact price from a box of a tree
+-- a goal that no box has is tight with a box of a tree
 pub record IsReached (cost : Costing) (g : Growth) (near : Near) : Type 0 where
   pub within : near.goal < length g.v
   pub free : (member : ℕ) → member < length g.goal_of → slice_index g.goal_of member ≢ near.goal
   pub from : near.slack.from < length g.branches
   pub tight : IsTight cost g.u g.v (branch_at g.branches near.slack.from).member near.goal
 
--- no goal outside a tree is reached by its boxes
+-- the boxes of a tree reach no goal outside it
 abbrev pub ReachesNoOther : Growth → Type 0
 ReachesNoOther g = (goal : ℕ) → goal < length g.v → is_marked g.taken goal ≡ false → unreached ≤ (slack_at g.slacks goal).rise
 
@@ -117,17 +117,17 @@ pub record IsNext (cost : Costing) (g : Growth) (near : Near) : Type 0 where
   pub way : IsSlack cost g.u g.v g.branches near.goal near.slack
   pub least : (goal : ℕ) → goal < length g.v → is_marked g.taken goal ≡ false → near.slack.rise ≤ (slack_at g.slacks goal).rise
 
--- what is told of the goals outside a tree: the next one to be reached, and None where none is
+-- the next goal outside a tree that is reached, or None if there is none
 abbrev pub TellsNext : Costing → Growth → Option Near → Type 0
 TellsNext cost g None = ReachesNoOther g
 TellsNext cost g (Some near) = IsNext cost g near
 
--- how a search ends: at a next goal that no box has, or where there is no way on
+-- how a search ends: at a next goal that no box has, or at None if no other goal is reached
 abbrev pub TellsEnd : Costing → Growth → Option Near → Type 0
 TellsEnd cost g None = ReachesNoOther g
 TellsEnd cost g (Some near) = IsNext cost g near × ((member : ℕ) → member < length g.goal_of → slice_index g.goal_of member ≢ near.goal)
 
--- goals of the boxes, the next box among them, that lie at exact prices
+-- goals of the first boxes and of the next box, each of them tight
 pub record IsRematched (cost : Costing) (g : Growth) (goal_of : List ℕ) : Type 0 where
   pub more : length goal_of ≡ length g.goal_of + 1
   pub apart : AllPairs ◌≢◌ goal_of
@@ -135,12 +135,12 @@ pub record IsRematched (cost : Costing) (g : Growth) (goal_of : List ℕ) : Type
   pub exist : All (λ goal. goal < length g.v) goal_of
   pub exact : AreTight cost g.u g.v goal_of
 
--- goals that all boxes of a search have and the next, where a goal that was reached lies at an exact price
+-- goals of all boxes of a search and the next, provided that the goal that was reached is tight
 abbrev pub Rematches : Growth → Near → List ℕ → Type 0
 Rematches g near goal_of = (cost : Costing) (members goals floor : ℕ) → IsMatched cost members goals floor g.u g.v g.goal_of
     → GoesTight cost g.u g.v g.branches → IsReached cost g near → IsRematched cost g goal_of
 
--- prices and goals of the first boxes, with room for a search for the next
+-- the prices and the goals of the first boxes, with room for a search for the next
 pub record IsReady (cost : Costing) (members goals : ℕ) (g : Growth) : Type 0 where
   pub matched : IsMatched cost members goals g.floor g.u g.v g.goal_of
   pub bounded : g.floor ≤ floor_limit

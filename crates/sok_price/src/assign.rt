@@ -1,4 +1,4 @@
-//! The least assignment of goals to boxes.
+//! The minimum assignment of boxes to goals.
 
 ghost use Rattle.std.specs.Prelude.{ℕ, List, ◌≡◌, ◌<◌, ◌≤◌, All, IfOk, length};
 ghost use Rattle.sok_board.specs.Area.{BoardView};
@@ -15,11 +15,11 @@ use sok_distance::distances::Distances;
 use sok_rules::fault::Memory;
 use std::alloc::Global;
 
-/// What is found of boxes and goals.
+/// The assignment that was found, or the reason why there is none.
 #[derive(Drop)]
 pub enum Match {
-    /// A goal of its own for each box, by its index among the board's goals, such that their
-    /// distances add up to the total; and prices of the boxes and of all goals, from 0 to
+    /// A goal of its own for each box, by its index among the board's goals, such that the
+    /// distances add up to `total`; and prices of the boxes (`u`) and of all goals (`v`), from 0 to
     /// 1,000,000, that prove that no assignment costs less (Egerváry's theorem). The total is the
     /// sum of the boxes' prices less that of the goals'.
     Prices {
@@ -28,18 +28,19 @@ pub enum Match {
         total: u32,
         goal_of: Vec<usize>,
     },
-    /// Boxes by their indices, rising, that reach fewer goals than they are (Hall's condition).
+    /// Boxes that reach fewer goals than they are (Hall's condition), by their indices, in
+    /// ascending order.
     Crowd {
         members: Vec<u32>,
     },
 }
 
-/// Which goal each box could go to, so that the distances add up to the least, with prices that
-/// prove it; or a crowd, where there is no such goal for each. It is the shortest augmenting path
-/// method for the assignment problem (Kuhn, Munkres), box by box, with prices from 0 that are fair
-/// everywhere, exact on matched pairs and 0 at unmatched goals; it takes at most boxes squared
-/// times goals steps. The boxes are on squares of the board of which the distances were made. It
-/// refuses only for want of memory.
+/// Finds a minimum assignment of boxes to goals with prices that prove it, or a crowd if there is
+/// no goal of its own for each box. The boxes are on squares of the board of the distances.
+///
+/// It uses shortest augmenting paths (Kuhn, Munkres), box by box. The prices start from 0; they are
+/// fair everywhere, tight on matched pairs, and 0 at unmatched goals. It takes at most boxes
+/// squared times goals steps. Errors: `Memory`.
 pub fn assign(alloc: Global, distances: &Distances, boxes: &BoxSet) -> Result<Match, Memory>
     requires { All (λ square. square < length distances.now.board.area) boxes.now }
     ensures { IfOk result (IsMatch distances.now.board boxes.now) }
@@ -49,14 +50,14 @@ pub fn assign(alloc: Global, distances: &Distances, boxes: &BoxSet) -> Result<Ma
     assign_rows(alloc, &costs, &places(alloc, boxes.len())?)
 }
 
-/// Whether a box is in a tree.
+/// Returns whether a box is in a tree.
 fn is_in(branches: &[Branch], member: usize) -> bool
     ensures { result ≡ is_met branches.now member }
 {
     branches.iter().any(|branch| branch.member == member)
 }
 
-/// Those of the first boxes that are in a tree, by their indices, rising.
+/// Returns which of the boxes before `end` are in a tree, by their indices, in ascending order.
 fn members_in(alloc: Global, branches: &[Branch], end: usize) -> Result<Vec<u32>, Memory>
     requires { end ≤ square_limit }
     ensures { IfOk result (λ members. members.items ≡ members_of branches.now end) }
@@ -70,7 +71,7 @@ fn members_in(alloc: Global, branches: &[Branch], end: usize) -> Result<Vec<u32>
     Ok(members)
 }
 
-/// The least assignment of goals to the boxes that have some rows of costs, or a crowd of them.
+/// Finds a minimum assignment of goals to the boxes with these rows of costs, or a crowd of them.
 pub(crate) fn assign_rows(alloc: Global, costs: &Costs, rows: &[usize]) -> Result<Match, Memory>
     requires costs { AreCosts costs.now rows.now }
     requires few { length rows.now ≤ box_limit }
@@ -86,7 +87,7 @@ pub(crate) fn assign_rows(alloc: Global, costs: &Costs, rows: &[usize]) -> Resul
     })
 }
 
-/// The prices and goals of a search that has a goal for each box.
+/// Returns the prices and goals of a search that has a goal for each box.
 fn priced(search: PathSearch) -> Match
     requires { HasWorth search }
     ensures { HasPrices search result }

@@ -1,4 +1,4 @@
-//! What it costs to bring each box to each goal.
+//! The cost of bringing each box to each goal.
 
 ghost use Rattle.std.specs.Prelude.{
   ℕ,
@@ -22,8 +22,8 @@ use sok_distance::distances::Distances;
 use sok_rules::fault::Memory;
 use std::alloc::Global;
 
-/// Costs at each goal, row by row, so that the goals of a box, which has one of the rows, lie side
-/// by side.
+/// Costs in pushes, row by row with an entry for each goal. A box has one of the rows, so the costs
+/// of a box are contiguous.
 #[derive(Drop)]
 pub(crate) struct Costs {
     pub(crate) goals: usize,
@@ -31,7 +31,7 @@ pub(crate) struct Costs {
 }
 
 impl Costs {
-    /// The distances of boxes on some squares to each goal of a board.
+    /// Returns the distances of boxes on these squares to each goal of a board.
     pub(crate) fn of(
         alloc: Global,
         distances: &Distances,
@@ -52,7 +52,8 @@ impl Costs {
         Ok(Costs { goals, entries })
     }
 
-    /// The distances of each square of a board to each goal, and a last row that costs nothing.
+    /// Returns the distances of each square of a board to each goal, and a last row that costs
+    /// nothing.
     pub(crate) fn tabled(
         alloc: Global,
         distances: &Distances,
@@ -74,8 +75,8 @@ impl Costs {
         Ok(Costs { goals, entries })
     }
 
-    /// The costs of bringing a box to each goal, by the rows that boxes have. None where no pushes
-    /// do.
+    /// Returns the costs of bringing a box to each goal; `rows` has the row of each box. An entry
+    /// is None if no pushes bring it there.
     pub(crate) fn row(&self, rows: &[usize], member: usize) -> &[Option<u16>]
         requires costs { AreCosts self.now rows.now }
         requires member { member < length rows.now }
@@ -88,7 +89,7 @@ impl Costs {
     }
 }
 
-/// The first numbers in order.
+/// Returns the first `count` numbers in order.
 pub(crate) fn places(alloc: Global, count: usize) -> Result<Vec<usize>, Memory>
     ensures whole { IfOk result (λ rows. length rows.items ≡ count) }
     ensures each { IfOk result (λ rows. (k : ℕ) → k < count → slice_index rows.items k ≡ k) }
@@ -96,7 +97,7 @@ pub(crate) fn places(alloc: Global, count: usize) -> Result<Vec<usize>, Memory>
     Ok((0..count).collect(alloc)?)
 }
 
-/// The entries with the distances of one more square.
+/// Appends the distances of one more square.
 fn with_row(
     distances: &Distances,
     goals: usize,

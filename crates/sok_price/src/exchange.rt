@@ -1,4 +1,4 @@
-//! A row of a matching that is exchanged for another.
+//! The exchange of one row of a matching for another.
 
 ghost use Rattle.std.specs.Prelude.{
   vec_capacity,
@@ -20,7 +20,7 @@ ghost use Rattle.sok_price.specs.Searches.{growth_of, HasRoom, IsReady, KeepsRoo
 use crate::costs::Costs;
 use crate::search::{PathSearch, match_all};
 
-/// Exchanges a row: the last one takes its place, and a new one is the last.
+/// Exchanges the row at an index: the last row moves there, and the new row becomes the last.
 #[tactic(auto, using(crate::proofs::Exchanging::moved_set))]
 fn put_row(row: usize, entry: usize, rows: &mut Vec<usize>)
     requires { row < length rows.old.items }
@@ -31,7 +31,7 @@ fn put_row(row: usize, entry: usize, rows: &mut Vec<usize>)
     rows[last] = entry;
 }
 
-/// Exchanges a price: the last one takes its place, and 0 is the last.
+/// Exchanges the price at an index: the last price moves there, and 0 becomes the last.
 #[tactic(auto, using(crate::proofs::Exchanging::moved_set))]
 fn put_price(row: usize, prices: &mut Vec<u32>)
     requires { row < length prices.old.items }
@@ -42,7 +42,7 @@ fn put_price(row: usize, prices: &mut Vec<u32>)
     prices[last] = 0;
 }
 
-/// Takes a goal away: the last one takes its place.
+/// Removes the goal of the row at an index: the last goal moves there.
 fn free_goal(row: usize, goal_of: &mut Vec<usize>)
     requires { row < length goal_of.old.items }
     ensures fewer { length goal_of.new.items + 1 ≡ length goal_of.old.items }
@@ -56,7 +56,7 @@ fn free_goal(row: usize, goal_of: &mut Vec<usize>)
     goal_of.truncate(last);
 }
 
-/// The highest of a floor and some prices.
+/// Returns the highest of `floor` and some prices.
 pub(crate) fn highest(floor: u32, prices: &[u32]) -> u32
     ensures risen { floor ≤ result }
     ensures top { All (λ price. price ≤ result) prices.now }
@@ -72,8 +72,8 @@ pub(crate) fn highest(floor: u32, prices: &[u32]) -> u32
     high
 }
 
-/// Exchanges a row of a matching, which has no goal yet. The floor rises to the highest price of a
-/// goal, since the goal that the old row had keeps its price.
+/// Exchanges a row of a matching; the new row has no goal yet. The floor rises to the highest price
+/// of a goal, since the goal that the old row had keeps its price.
 fn open_row(row: usize, entry: usize, costs: &Costs, rows: &mut Vec<usize>, search: &mut PathSearch)
     requires whole { IsWhole costs.now rows.old.items search.old }
     requires exchange { IsExchange costs.now rows.old.items row entry }
@@ -91,8 +91,8 @@ fn open_row(row: usize, entry: usize, costs: &Costs, rows: &mut Vec<usize>, sear
     search.floor = highest(search.floor, &search.v);
 }
 
-/// Exchanges a row of a matching, and matches it anew by one augmenting path. False where there is
-/// none.
+/// Exchanges a row of a matching, and matches the new row by one augmenting path. Returns false if
+/// there is none.
 pub(crate) fn exchange(
     row: usize,
     entry: usize,

@@ -1,17 +1,20 @@
-//! Which goal each box could go to at the least cost, with prices that prove it, or boxes that
-//! share too few goals.
+//! The minimum assignment of boxes to goals, with prices that prove it, or a crowd: boxes that
+//! reach fewer goals than they are.
+//!
+//! Each box and each goal has a price. Prices are fair if no box costs more than a goal plus the
+//! way there. They are tight for a box and a goal if both are equal.
 //!
 //! | Module | What it holds |
 //! |---|---|
-//! | `assign` | the least assignment of goals to boxes, or a crowd |
-//! | `costs` | what it costs to bring each box to each goal |
-//! | `exchange` | one row of a matching exchanged for another |
+//! | `assign` | the minimum assignment of boxes to goals, or a crowd |
+//! | `costs` | the cost of bringing each box to each goal (private) |
+//! | `exchange` | the exchange of one row of a matching for another (private) |
 //! | `law` | prices bound the pushes, and a crowd has no solution |
 //! | `matching` | a matching that is kept from one set of boxes to the next |
-//! | `reading` | the prices and goals of boxes, read from a matching |
-//! | `search` | the search for a goal for one more box |
-//! | `settle` | the rows of a matching, set to those of some boxes |
-//! | `slacks` | how much prices may rise before a goal is reached |
+//! | `reading` | the prices and goals of boxes, read from a matching (private) |
+//! | `search` | the search for a goal for one more box (private) |
+//! | `settle` | the rows of a matching, exchanged until they are those of some boxes (private) |
+//! | `slacks` | how far prices may rise before a goal is reached (private) |
 #![tactic(auto)]
 
 pub mod assign;

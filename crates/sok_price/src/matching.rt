@@ -45,9 +45,9 @@ use sok_rules::fault::Memory;
 use std::alloc::Global;
 use std::marker::Model;
 
-/// Boxes matched to goals at the least total distance, with prices that prove it, kept from one set
-/// of boxes to the next: there is a row for each goal of the board, and the rows to which no box is
-/// matched cost nothing. `set` and `bound_after` ask for no memory.
+/// A minimum assignment of boxes to goals with prices that prove it, kept from one set of boxes to
+/// the next. There is a row for each goal of the board; rows without a box are spare and cost
+/// nothing. `set` and `bound_after` allocate nothing.
 #[derive(Drop)]
 pub struct Matching {
     squares: usize,
@@ -78,7 +78,7 @@ impl Model for Matching {
 }
 
 impl Matching {
-    /// A matching for a board, with no boxes matched yet. It refuses only for want of memory.
+    /// Returns a matching for a board, with no boxes matched yet. Errors: `Memory`.
     pub fn new(alloc: Global, setting: &Setting<'_>) -> Result<Matching, Memory>
         ensures serves { IfOk result (Serves setting.now.board.now) }
     {
@@ -96,9 +96,9 @@ impl Matching {
         })
     }
 
-    /// Matches some boxes and tells the least total of their distances to goals of their own. None
-    /// where they have a crowd. A box that was matched before keeps its goal, and one augmenting
-    /// path is looked for for each of the others.
+    /// Matches some boxes and returns the least total of their distances to goals of their own.
+    /// None if they have a crowd. Boxes that were matched before stay matched if possible; each of
+    /// the others takes one augmenting path.
     pub fn set(&mut self, boxes: &BoxSet) -> Option<u32>
         requires exist { All (λ square. square < self.old.squares) boxes.now }
         ensures serves { (b : BoardView) → Serves b self.old → Serves b self.new }
@@ -112,8 +112,9 @@ impl Matching {
         Some(worth(&self.search))
     }
 
-    /// The least total of the boxes with one of them moved to a square where no box is, by one
-    /// augmenting path. None where they have a crowd. Matching and prices stay as they are.
+    /// Returns the least total after the box on `from` moves to `to`, where no box is; it takes one
+    /// augmenting path. None if the boxes then have a crowd. The matching and its prices stay as
+    /// they are.
     pub fn bound_after(&mut self, from: Sq, to: Sq) -> Option<u32>
         requires moves { CanMove self.old from to }
         ensures same { self.new ≡ self.old }
@@ -133,9 +134,9 @@ impl Matching {
         }
     }
 
-    /// The least assignment of goals to some boxes with prices that prove it, or a crowd of them,
-    /// as `assign` gives it. The boxes are matched as by `set`, so prices may be other ones than
-    /// from nothing. It refuses only for want of memory.
+    /// Finds a minimum assignment of some boxes with prices that prove it, or a crowd of them, like
+    /// the function `assign`. The boxes are matched as by `set`, so the prices may differ from
+    /// those of a search from nothing. Errors: `Memory`.
     pub fn assign(&mut self, alloc: Global, boxes: &BoxSet) -> Result<Match, Memory>
         requires exist { All (λ square. square < self.old.squares) boxes.now }
         ensures serves { (b : BoardView) → Serves b self.old → Serves b self.new }
@@ -151,7 +152,7 @@ impl Matching {
         }
     }
 
-    /// Matches some boxes. False where they have a crowd.
+    /// Matches some boxes. Returns false if they have a crowd.
     fn match_to(&mut self, boxes: &[Sq]) -> bool
         requires exist { All (λ square. square < self.old.squares) boxes.now }
         requires rising { IsStrictlyIncreasing boxes.now }
@@ -179,7 +180,7 @@ impl Matching {
         self.matched
     }
 
-    /// The least assignment of goals to some boxes, or a crowd of them, found from nothing.
+    /// Finds a minimum assignment of some boxes, or a crowd of them, from nothing.
     fn assign_anew(&self, alloc: Global, boxes: &[Sq]) -> Result<Match, Memory>
         requires exist { All (λ square. square < self.now.squares) boxes.now }
         requires few { length boxes.now ≤ box_limit }
@@ -189,14 +190,14 @@ impl Matching {
     }
 }
 
-/// As many spare rows as there are goals.
+/// Returns as many spare rows as there are goals.
 fn spare_rows(alloc: Global, goals: usize, squares: usize) -> Result<Vec<usize>, Memory>
     ensures { IfOk result (λ rows. rows.items ≡ replicate goals squares) }
 {
     Ok(vec![in alloc; squares; goals]?)
 }
 
-/// The squares of some boxes, as rows.
+/// Returns the squares of some boxes, as rows.
 fn rows_of(alloc: Global, boxes: &[Sq]) -> Result<Vec<usize>, Memory>
     ensures whole { IfOk result (λ rows. length rows.items ≡ length boxes.now) }
     ensures each { IfOk result (λ rows. (k : ℕ) → k < length boxes.now

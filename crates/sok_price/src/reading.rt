@@ -27,10 +27,10 @@ use sok_board::area::Sq;
 use sok_rules::fault::Memory;
 use std::alloc::Global;
 
-/// The highest price that is answered.
+/// The highest price in an answer.
 const PRICE_LIMIT: u32 = 1_000_000;
 
-/// The row of a box.
+/// Returns the index of a box's row.
 pub(crate) fn row_of(rows: &[usize], square: usize) -> usize
     requires { Contains rows.now square }
     ensures within { result < length rows.now }
@@ -42,7 +42,7 @@ pub(crate) fn row_of(rows: &[usize], square: usize) -> usize
     }
 }
 
-/// The lowest of a ceiling and some prices.
+/// Returns the lowest of `ceiling` and some prices.
 fn lowest(ceiling: u32, prices: &[u32]) -> u32
     ensures bottom { All (λ price. result ≤ price) prices.now }
     ensures most { (limit : ℕ) → limit ≤ ceiling → All (λ price. limit ≤ price) prices.now
@@ -57,7 +57,7 @@ fn lowest(ceiling: u32, prices: &[u32]) -> u32
     low
 }
 
-/// Some prices less one amount.
+/// Returns some prices, each less `amount` and at least 0.
 fn lowered(alloc: Global, amount: u32, prices: &[u32]) -> Result<Vec<u32>, Memory>
     ensures { IfOk result (λ less. less.items ≡ map (λ price. price - amount) prices.now) }
 {
@@ -69,7 +69,8 @@ fn lowered(alloc: Global, amount: u32, prices: &[u32]) -> Result<Vec<u32>, Memor
     )
 }
 
-/// The prices of some boxes less one amount, and their goals, in the order of the boxes.
+/// Returns the prices of some boxes, each less `amount` and at least 0, and their goals, in the
+/// order of the boxes.
 fn read_boxes(
     alloc: Global,
     amount: u32,
@@ -93,8 +94,9 @@ fn read_boxes(
     Ok((u, goal_of))
 }
 
-/// The prices and goals of some boxes, those of their rows in a matching of all rows, where the
-/// cheapest goal is to cost nothing. None where a price is too high for an answer.
+/// Returns the prices and goals of some boxes from a matching of all rows. All prices are lowered
+/// alike, so that the cheapest goal costs nothing. None if a price is then above `PRICE_LIMIT`.
+/// Errors: `Memory`.
 pub(crate) fn read(
     alloc: Global,
     rows: &[usize],

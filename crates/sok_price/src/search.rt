@@ -1,4 +1,4 @@
-//! The search for a goal for one more box.
+//! The search for a goal for one more box, by a shortest augmenting path.
 
 ghost use Rattle.std.specs.Prelude.{
   vec_capacity,
@@ -47,8 +47,8 @@ use crate::slacks::{Near, Slack, UNREACHED, look};
 use sok_rules::fault::Memory;
 use std::alloc::Global;
 
-/// A box of a tree, with the goal that it has, the branch from which that goal was reached, and how
-/// far the root's price rises until it is reached. The root has no goal, and is its own parent.
+/// A box of a tree, its goal, the branch from which that goal was reached, and how far the root's
+/// price rises until then. The root has no goal, and is its own parent.
 #[derive(Clone, Copy, Drop)]
 pub(crate) struct Branch {
     pub(crate) member: usize,
@@ -57,15 +57,16 @@ pub(crate) struct Branch {
     pub(crate) rise: u32,
 }
 
-/// The slack of a goal that no box is looked at from.
+/// The slack of a goal before any box of the tree has been scanned.
 const UNSEEN: Slack = Slack {
     rise: UNREACHED,
     from: 0,
 };
 
-/// Prices of boxes and goals, the goals of the first boxes, and a search for a goal for the next
-/// box: a tree of boxes, whether each goal is had by a box of it, the slacks of the other goals,
-/// and which box has a goal. No goal without a box costs more than a floor.
+/// A search for a goal for the next box. It has the prices of boxes (`u`) and goals (`v`), the
+/// goals of the first boxes, a tree of boxes, which goals these have (`taken`), the slacks of the
+/// other goals, and the box that has each goal (`takers`). A goal without a box has a price of at
+/// most `floor`.
 #[derive(Drop)]
 pub(crate) struct PathSearch {
     pub(crate) u: Vec<u32>,
@@ -79,7 +80,7 @@ pub(crate) struct PathSearch {
 }
 
 impl PathSearch {
-    /// Room for a search over some boxes and goals.
+    /// Returns room for a search over so many boxes and goals.
     pub(crate) fn new(alloc: Global, members: usize, goals: usize) -> Result<PathSearch, Memory>
         ensures { IfOk result (IsShaped members goals) }
     {
@@ -96,7 +97,7 @@ impl PathSearch {
     }
 }
 
-/// Raises the prices of the boxes of some branches by what is left of a rise behind each.
+/// Raises the price of each branch's box by `total` less the rise of the branch.
 fn raise_boxes(total: u32, branches: &[Branch], prices: &mut [u32])
     requires small { total ≤ rise_limit }
     requires low { All (λ price. price ≤ search_price_limit) prices.old }
@@ -114,7 +115,7 @@ fn raise_boxes(total: u32, branches: &[Branch], prices: &mut [u32])
     }
 }
 
-/// Raises the prices of the goals of some branches by what is left of a rise behind each.
+/// Raises the price of each branch's goal by `total` less the rise of the branch.
 fn raise_goals(total: u32, branches: &[Branch], prices: &mut [u32])
     requires small { total ≤ rise_limit }
     requires low { All (λ price. price ≤ search_price_limit) prices.old }
@@ -133,7 +134,7 @@ fn raise_goals(total: u32, branches: &[Branch], prices: &mut [u32])
     }
 }
 
-/// Notes which box has each goal.
+/// Records which box has each goal.
 fn find_takers(goal_of: &[usize], takers: &mut Vec<Option<usize>>)
     requires { All (λ goal. goal < length takers.old.items) goal_of.now }
     ensures whole { length takers.new.items ≡ length takers.old.items }
@@ -145,7 +146,7 @@ fn find_takers(goal_of: &[usize], takers: &mut Vec<Option<usize>>)
     }
 }
 
-/// Appends to a list that has room for one more item, so that no memory is asked for.
+/// Appends to a list that has room for one more item, so it allocates nothing.
 fn append<T: Drop>(list: &mut Vec<T>, item: T)
     requires { vec_len list.old < vec_capacity list.old }
     ensures items { list.new.items ≡ list.old.items ++ item ∷ [] }
@@ -180,8 +181,8 @@ pub(crate) fn begin(search: &mut PathSearch)
     find_takers(&search.goal_of, &mut search.takers);
 }
 
-/// Looks on from the box that joined the tree last, and tells the goal outside the tree that it
-/// reaches next. None where it reaches none.
+/// Scans the goals from the box that joined the tree last, and returns the goal outside the tree
+/// that the tree reaches next. None if it reaches none.
 fn look_on(costs: &Costs, rows: &[usize], search: &mut PathSearch) -> Option<Near>
     requires costs { AreCosts costs.now rows.now }
     requires growing { IsAhead (cost_of costs.now rows.now) (length rows.now) costs.now.goals
@@ -205,7 +206,7 @@ fn look_on(costs: &Costs, rows: &[usize], search: &mut PathSearch) -> Option<Nea
     )
 }
 
-/// Takes a goal that was reached, and the box that has it, into the tree.
+/// Adds a goal that was reached, and the box that has it, to the tree.
 #[tactic(auto, unfolding(crate::specs::Searches::joined))]
 fn join(near: Near, member: usize, search: &mut PathSearch)
     requires goal { near.goal < length search.old.taken.items }
@@ -225,8 +226,8 @@ fn join(near: Near, member: usize, search: &mut PathSearch)
     search.taken[near.goal] = true;
 }
 
-/// Grows the tree goal by goal until it reaches one that no box has, and says which. None where
-/// its boxes reach no goal but those that its other boxes have. Prices stay.
+/// Grows the tree goal by goal until it reaches a goal that no box has, and returns that one. None
+/// if its boxes reach only goals that its other boxes have. Prices stay.
 pub(crate) fn grow(costs: &Costs, rows: &[usize], search: &mut PathSearch) -> Option<Near>
     requires costs { AreCosts costs.now rows.now }
     requires growing { IsAhead (cost_of costs.now rows.now) (length rows.now) costs.now.goals
@@ -250,7 +251,8 @@ pub(crate) fn grow(costs: &Costs, rows: &[usize], search: &mut PathSearch) -> Op
     }
 }
 
-/// Raises the prices of the tree until a goal lies at an exact price from its box.
+/// Raises the prices of the tree until the goal `near` is tight with the box from which it was
+/// reached.
 pub(crate) fn raise(near: Near, costs: &Costs, rows: &[usize], search: &mut PathSearch)
     requires costs { AreCosts costs.now rows.now }
     requires growing { IsSeen (cost_of costs.now rows.now) (length rows.now) costs.now.goals
@@ -266,8 +268,8 @@ pub(crate) fn raise(near: Near, costs: &Costs, rows: &[usize], search: &mut Path
     raise_goals(near.slack.rise, &search.branches, &mut search.v);
 }
 
-/// Gives the goal that was reached to the box from which it was reached, that box's goal to the
-/// one before, and so on back to the root (an augmenting path).
+/// Augments along the path to the goal `near`: the box from which it was reached gets it, the box
+/// before gets that box's goal, and so on back to the root.
 pub(crate) fn rematch(near: Near, search: &mut PathSearch)
     requires tree { IsTree search.old.goal_of.items search.old.branches.items }
     requires from { near.slack.from < length search.old.branches.items }
@@ -287,9 +289,9 @@ pub(crate) fn rematch(near: Near, search: &mut PathSearch)
     }
 }
 
-/// A goal of its own for each box that has none yet, by the shortest augmenting path method, box by
-/// box. False where there is none: then the tree is one of boxes that reach no goals but those that
-/// the others of them have.
+/// Finds a goal of its own for each box that has none yet, box by box, by shortest augmenting
+/// paths. Returns false if there is none for a box: then the boxes of the tree reach only goals
+/// that the others of them have.
 pub(crate) fn match_all(costs: &Costs, rows: &[usize], search: &mut PathSearch) -> bool
     requires costs { AreCosts costs.now rows.now }
     requires ready { IsReady (cost_of costs.now rows.now) (length rows.now) costs.now.goals
@@ -313,7 +315,7 @@ pub(crate) fn match_all(costs: &Costs, rows: &[usize], search: &mut PathSearch) 
     true
 }
 
-/// Forgets the goals of all boxes, and all prices.
+/// Removes the goals of all boxes, and sets all prices to 0.
 fn clear(search: &mut PathSearch)
     ensures cleared { growth_of search.new ≡ record (growth_of search.old) {
       u = replicate (length search.old.u.items) 0;
@@ -329,8 +331,8 @@ fn clear(search: &mut PathSearch)
     search.floor = 0;
 }
 
-/// A goal of its own for each box, found from nothing, for `assign` and where a matching begins
-/// anew. False where there is none, as for `match_all`.
+/// Finds a goal of its own for each box from nothing, for `assign` and for a matching that begins
+/// anew. Returns false if there is none, like `match_all`.
 pub(crate) fn match_anew(costs: &Costs, rows: &[usize], search: &mut PathSearch) -> bool
     requires costs { AreCosts costs.now rows.now }
     requires shaped { IsShaped (length rows.now) costs.now.goals search.old }
@@ -342,7 +344,7 @@ pub(crate) fn match_anew(costs: &Costs, rows: &[usize], search: &mut PathSearch)
     match_all(costs, rows, search)
 }
 
-/// The sum of some prices.
+/// Returns the sum of some prices.
 fn sum_of(prices: &[u32]) -> u64
     requires { sum prices.now < 2 ^ 64 }
     ensures { result ≡ sum prices.now }
@@ -350,7 +352,7 @@ fn sum_of(prices: &[u32]) -> u64
     prices.iter().map(|price| u64::from(*price)).sum()
 }
 
-/// What the boxes cost less what the goals cost.
+/// Returns the sum of the boxes' prices less that of the goals'.
 pub(crate) fn worth(search: &PathSearch) -> u32
     requires { HasWorth search.now }
     ensures { result + sum search.now.v.items ≡ sum search.now.u.items }

@@ -1,4 +1,4 @@
-//! The rows of a matching, set to those of some boxes.
+//! The rows of a matching, exchanged until they are those of some boxes.
 
 ghost use Rattle.std.specs.Prelude.{
   ◌≡◌,
@@ -33,7 +33,7 @@ use crate::exchange::exchange;
 use crate::search::{PathSearch, match_anew};
 use sok_board::area::Sq;
 
-/// The highest floor from which a row is exchanged.
+/// The highest floor from which a row is exchanged. Above it, all boxes are matched from nothing.
 const FLOOR_LIMIT: u32 = 268_435_456;
 
 /// Marks the squares of some boxes, and no others.
@@ -59,7 +59,7 @@ fn mark_rows(rows: &[usize], marks: &mut [bool])
     }
 }
 
-/// A row whose box is not there any more.
+/// Returns the index of a row whose box is gone.
 fn stale(rows: &[usize], boxes: &[Sq], marks: &mut [bool]) -> Option<usize>
     requires { All (λ square. square < length marks.old) boxes.now }
     ensures { MatchOption result (AreOf (length marks.old) rows.now boxes.now)
@@ -74,7 +74,7 @@ fn stale(rows: &[usize], boxes: &[Sq], marks: &mut [bool]) -> Option<usize>
     None
 }
 
-/// The square of a box that has no row yet.
+/// Returns the square of a box that has no row yet.
 fn missing(rows: &[usize], boxes: &[Sq], marks: &mut [bool]) -> Option<usize>
     requires { All (λ square. square < length marks.old) boxes.now }
     ensures { MatchOption result (All (Contains rows.now) boxes.now)
@@ -89,7 +89,7 @@ fn missing(rows: &[usize], boxes: &[Sq], marks: &mut [bool]) -> Option<usize>
     None
 }
 
-/// A spare row, or the first one if none is spare.
+/// Returns the index of a spare row, or 0 if none is spare.
 fn spare(rows: &[usize], squares: usize) -> usize
     requires { 0 < length rows.now }
     ensures { result < length rows.now }
@@ -102,7 +102,8 @@ fn spare(rows: &[usize], squares: usize) -> usize
     0
 }
 
-/// Which row is to be exchanged next, and for which, until the rows are those of the boxes.
+/// Returns the index of the next row to exchange, and the row that replaces it. None if the rows
+/// are those of the boxes.
 fn change(
     rows: &[usize],
     boxes: &[Sq],
@@ -123,7 +124,7 @@ fn change(
     }
 }
 
-/// The rows of some boxes in order, and then spare rows.
+/// Lists the rows of some boxes in order, followed by spare rows.
 fn list_rows(squares: usize, boxes: &[Sq], rows: &mut Vec<usize>)
     requires { length boxes.now ≤ length rows.old.items }
     ensures { AreListed squares (length rows.old.items) boxes.now rows.new.items }
@@ -134,8 +135,8 @@ fn list_rows(squares: usize, boxes: &[Sq], rows: &mut Vec<usize>)
     }
 }
 
-/// Exchanges the rows of a matching until they are those of some boxes. False where there is no
-/// matching, where a price grew too high, or where boxes on the way have a crowd.
+/// Exchanges the rows of a matching until they are those of some boxes. Returns false if there is
+/// no matching, if a price grew too high, or if the boxes have a crowd after one of the exchanges.
 fn settle(
     squares: usize,
     boxes: &[Sq],
@@ -170,9 +171,9 @@ fn settle(
     false
 }
 
-/// Matches some boxes, if it can from the matching that stands: then a row whose box is there still
-/// keeps its price and goal, and the others are matched anew by one augmenting path each. If it
-/// cannot, it matches all from nothing. False where they have a crowd.
+/// Matches some boxes, if possible from the present matching: rows of boxes that are still there
+/// stay, and each of the others is matched anew by one augmenting path. Otherwise it matches all
+/// boxes from nothing. Returns false if they have a crowd.
 pub(crate) fn match_boxes(
     squares: usize,
     boxes: &[Sq],

@@ -21,15 +21,16 @@ ghost use Rattle.std.specs.Prelude.{
 ghost use Rattle.sok_price.specs.Limits.{rise_limit};
 ghost use Rattle.sok_price.specs.Slacks.{closer, smaller, slack_at, TellsNearest};
 
-/// How far the price of a tree's root may rise before a box of the tree reaches a goal at an exact
-/// price, the least of the tree's boxes, and the branch of that box. `UNREACHED` where none does.
+/// How far the price of a tree's root may rise before some box of the tree has a tight price for a
+/// goal, and the branch of that box. The rise is `UNREACHED` if no box of the tree reaches the
+/// goal.
 #[derive(Clone, Copy, Drop)]
 pub(crate) struct Slack {
     pub(crate) rise: u32,
     pub(crate) from: usize,
 }
 
-/// The rise to a goal that no box of a tree reaches.
+/// The rise of a goal that no box of a tree reaches.
 pub(crate) const UNREACHED: u32 = u32::MAX;
 
 /// A goal and its slack.
@@ -39,7 +40,7 @@ pub(crate) struct Near {
     pub(crate) slack: Slack,
 }
 
-/// The smaller of a slack and one of a branch.
+/// Returns the smaller of a slack and that of the branch `from`.
 #[tactic(auto, unfolding(crate::specs::Slacks::smaller))]
 fn smaller(rise: u32, from: usize, slack: Slack) -> Slack
     ensures { result ≡ smaller rise from slack }
@@ -51,8 +52,8 @@ fn smaller(rise: u32, from: usize, slack: Slack) -> Slack
     }
 }
 
-/// A goal's slack once a box of the tree is looked at, with its price, the goal's, and the rise at
-/// which the box joined.
+/// Returns a goal's slack after a box of the tree is scanned, from the box's cost and price, the
+/// goal's price, and the rise at which the box joined.
 #[tactic(auto, unfolding(crate::specs::Slacks::closer))]
 fn closer(
     cost: Option<u16>,
@@ -72,8 +73,8 @@ fn closer(
     }
 }
 
-/// Whether a goal is nearer than the least slack so far, or as near and no box has it: there the
-/// search ends, with a smaller tree.
+/// Returns whether a goal is nearer than the least slack so far, or as near and no box has it: the
+/// search then ends there, with a smaller tree.
 fn is_nearer(rise: u32, least: u32, goal: usize, takers: &[Option<usize>]) -> bool
     requires { goal < length takers.now }
     ensures nearer { IsTrue result → rise ≤ least }
@@ -82,9 +83,9 @@ fn is_nearer(rise: u32, least: u32, goal: usize, takers: &[Option<usize>]) -> bo
     rise < least || rise == least && takers[goal].is_none()
 }
 
-/// Looks at the goals outside the tree from a box of it, with the box's costs, its price, and its
-/// branch, which joined at some rise, and tells the goal with the least slack. None where none is
-/// reached.
+/// Scans the goals outside the tree from the box of the branch `from`, which has the costs `row`
+/// and the price `price` and joined at `rise`. Updates the slacks, and returns the goal with the
+/// least. None if no goal is reached.
 pub(crate) fn look(
     row: &[Option<u16>],
     price: u32,

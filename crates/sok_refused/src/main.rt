@@ -1,8 +1,9 @@
 //! Makes calls that the words of the program do not reach, and compares what they answer and what
 //! they leave: play in a session, a table of states, and the solver by itself. Each line of the
-//! input names a run, and for each a line is written: `same`; or `memory`, where memory was refused
-//! to a call that then left what was lent to it as it was, and once more did what it should; or
-//! `other` and the place of the first call, from 0, that did not, and then the status is 1.
+//! input names a run, and for each a line is written. It is `same` if all calls did what they
+//! should. It is `memory` if memory was refused to a call, which then left its arguments as they
+//! were, and did what it should when it was made again. Otherwise it is `other` and the place of
+//! the first call, from 0, that did not, and the status is 1.
 #![tactic(auto)]
 
 mod playing;
@@ -32,7 +33,7 @@ fn main(rt: HostRuntime) -> io::Result<ExitCode> {
     Ok(ExitCode::from(status))
 }
 
-/// Tells of a line that could not be read, where memory was refused to it.
+/// Reports a line that could not be read because memory was refused to it.
 fn unread(rt: &impl Print, error: io::Error) -> io::Result<ExitCode> {
     if error.kind() != ErrorKind::OutOfMemory {
         return Err(error);
@@ -42,7 +43,7 @@ fn unread(rt: &impl Print, error: io::Error) -> io::Result<ExitCode> {
     Ok(ExitCode::from(0))
 }
 
-/// What comes of the run of a name.
+/// Makes the run with a name.
 fn told_of(alloc: Global, name: &str) -> Told {
     match name {
         "a session" => playing::told_of(alloc),

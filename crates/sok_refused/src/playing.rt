@@ -1,5 +1,5 @@
-//! Play in a session: letters that are taken back and played again, and a walk to and fro whose
-//! letters ask for memory again and again.
+//! Play in a session: letters that are undone and played again, and a walk to and fro whose letters
+//! ask for memory again and again.
 
 ghost use Rattle.std.specs.Prelude.{◌<◌};
 
@@ -32,14 +32,14 @@ const PUSHED: Shown = Shown {
     row: "#. @$  #",
 };
 
-/// Acts, what they answer, and what is shown behind them.
+/// Acts, what they answer, and what the session shows after them.
 const ACTS: [(Act, Result<bool, PlayFault>, Shown); 10] = [
     (Act::Play(Dir::Right), Ok(true), PUSHED),
     (Act::Undo, Ok(true), AT_START),
     (Act::Redo, Ok(true), PUSHED),
     (Act::Undo, Ok(true), AT_START),
     (Act::Undo, Ok(false), AT_START),
-    // a refused letter keeps those undone
+    // a refused letter keeps the undone ones
     (Act::Play(Dir::Up), Err(PlayFault::Blocked(0)), AT_START),
     (Act::Redo, Ok(true), PUSHED),
     (Act::Redo, Ok(false), PUSHED),
@@ -50,7 +50,7 @@ const ACTS: [(Act, Result<bool, PlayFault>, Shown); 10] = [
 /// How many letters the walk has.
 const WALK: usize = 100;
 
-/// What comes of play on the corridor.
+/// Plays on the corridor: the acts, and the walk.
 pub(crate) fn told_of(alloc: Global) -> Told {
     match session(alloc) {
         Ok(mut session) => acted(&mut session).then(walked(&mut session)),
@@ -66,7 +66,7 @@ fn session(alloc: Global) -> Result<Session, Told> {
     }
 }
 
-/// What comes of the acts, one after another.
+/// Does the acts, one after another.
 fn acted(session: &mut Session) -> Told {
     let mut told = Told::Same;
     let mut before = AT_START;
@@ -78,8 +78,8 @@ fn acted(session: &mut Session) -> Told {
     told
 }
 
-/// What comes of an act, which is done once more where memory is refused to it: to a letter alone,
-/// and where none is undone.
+/// Does an act, and does it again if memory is refused to it. That may happen only to a letter, and
+/// only if none is undone.
 fn acts(
     session: &mut Session,
     act: Act,
@@ -115,7 +115,7 @@ fn has_row(session: &Session, row: &str) -> bool {
     true
 }
 
-/// What comes of the walk, which is taken back at its end, and played again.
+/// Plays the walk, undoes it, and plays it again.
 fn walked(session: &mut Session) -> Told {
     let mut told = Told::Same;
     for place in 0..WALK {
@@ -124,8 +124,7 @@ fn walked(session: &mut Session) -> Told {
     told.then(Told::Same.checked(is_taken_back(session) && is_played_again(session), WALK))
 }
 
-/// What comes of the letter of the walk at a place, which is played once more where memory is
-/// refused to it.
+/// Plays the letter of the walk at a place, and plays it again if memory is refused to it.
 fn walks(session: &mut Session, place: usize) -> Told
     requires { place < 100 }
 {
@@ -141,7 +140,7 @@ fn walks(session: &mut Session, place: usize) -> Told
     }
 }
 
-/// The letter of the walk at a place.
+/// Returns the letter of the walk at a place.
 fn letter(place: usize) -> Dir {
     if place % 2 == 0 {
         Dir::Left
@@ -150,7 +149,7 @@ fn letter(place: usize) -> Dir {
     }
 }
 
-/// Whether a session shows the walk after so many letters.
+/// Returns whether a session shows the walk after so many letters.
 fn has_walked(session: &Session, count: usize) -> bool {
     let row = if count % 2 == 0 {
         "#.@$   #"
@@ -164,7 +163,7 @@ fn has_walked(session: &Session, count: usize) -> bool {
         && has_row(session, row)
 }
 
-/// Whether letters are the first ones of the walk, so many.
+/// Returns whether these are the first `count` letters of the walk.
 fn are_of_walk(letters: &[Dir], count: usize) -> bool {
     for (place, dir) in letters.iter().enumerate() {
         if *dir != letter(place) {
@@ -174,7 +173,7 @@ fn are_of_walk(letters: &[Dir], count: usize) -> bool {
     letters.len() == count
 }
 
-/// Whether the letters of the walk are taken back one by one, and no more.
+/// Undoes the letters of the walk one by one. Returns whether these are all.
 fn is_taken_back(session: &mut Session) -> bool {
     for place in 0..WALK {
         if !session.undo() || !has_walked(session, WALK - 1 - place) {
@@ -184,7 +183,7 @@ fn is_taken_back(session: &mut Session) -> bool {
     !session.undo()
 }
 
-/// Whether the letters of the walk are played again one by one, and no more.
+/// Plays the letters of the walk again one by one. Returns whether these are all.
 fn is_played_again(session: &mut Session) -> bool {
     for place in 0..WALK {
         if !session.redo() || !has_walked(session, place + 1) {

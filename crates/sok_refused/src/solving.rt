@@ -14,7 +14,7 @@ use std::alloc::Global;
 /// More states than the levels have.
 const LIMIT: u32 = 1_000;
 
-/// What comes of a board that takes so many pushes, or has no solution.
+/// Solves a board that takes so many pushes, or has no solution.
 pub(crate) fn told_of(alloc: Global, board: &str, pushes: Option<u32>) -> Told {
     match sketch::level(alloc, board) {
         Ok(level) => level_told(alloc, &level, pushes),
@@ -23,7 +23,7 @@ pub(crate) fn told_of(alloc: Global, board: &str, pushes: Option<u32>) -> Told {
     }
 }
 
-/// What comes of a level, which is solved once more where memory is refused.
+/// Solves a level, and solves it again if memory is refused.
 fn level_told(alloc: Global, level: &Level, pushes: Option<u32>) -> Told {
     let told = once_told(alloc, level, pushes);
     if told != Told::Refused {
@@ -52,7 +52,7 @@ fn outcome_told(alloc: Global, level: &Level, outcome: &Outcome, pushes: Option<
     }
 }
 
-/// What comes of letters that are to solve a level with so many pushes.
+/// Returns whether letters solve a level with so many pushes.
 fn letters_told(alloc: Global, level: &Level, letters: &[Dir], pushes: u32) -> Told {
     match replay(alloc, level, letters) {
         Ok(tally) => {

@@ -1,4 +1,4 @@
-//! A table of states, into which so many are entered that it asks for memory again and again.
+//! A table of states, with so many entries that it asks for memory again and again.
 
 ghost use Rattle.std.specs.Prelude.{◌<◌, ◌≤◌, All, IfOk, OnOk};
 ghost use Rattle.sok_board.specs.Limits.{square_limit};
@@ -14,7 +14,7 @@ use std::alloc::Global;
 /// How many states are entered.
 const COUNT: usize = 80;
 
-/// What comes of a table for so many squares.
+/// Enters the states into a table for so many squares.
 pub(crate) fn told_of(alloc: Global, squares: usize) -> Told
     requires many { 64 ≤ squares }
     requires few { squares ≤ square_limit }
@@ -26,7 +26,7 @@ pub(crate) fn told_of(alloc: Global, squares: usize) -> Told
     }
 }
 
-/// What comes of all states, which are entered one after another.
+/// Enters all states, one after another.
 fn all_told(alloc: Global, table: &mut Table) -> Result<Told, Memory>
     requires { 64 ≤ table.old.room }
 {
@@ -39,7 +39,7 @@ fn all_told(alloc: Global, table: &mut Table) -> Result<Told, Memory>
     Ok(told)
 }
 
-/// What comes of the state at a place, which is entered once more where memory is refused to it.
+/// Enters the state at a place, and enters it again if memory is refused to it.
 fn one_told(alloc: Global, table: &mut Table, place: usize) -> Result<Told, Memory>
     requires wide { 64 ≤ table.old.room }
     requires few { place < 80 }
@@ -57,7 +57,7 @@ fn one_told(alloc: Global, table: &mut Table, place: usize) -> Result<Told, Memo
     Ok(told.checked(entered, place))
 }
 
-/// The state at a place: two of each box but for the first, with the player on either side of it.
+/// Returns the state at a place: two for each box but the first, with the player on either side.
 fn key(alloc: Global, place: usize) -> Result<Key, Memory>
     requires few { place < 80 }
     ensures { IfOk result (λ key. All (λ square. square < 64) key.boxes) }
@@ -67,7 +67,7 @@ fn key(alloc: Global, place: usize) -> Result<Key, Memory>
     Ok(Key { boxes, least })
 }
 
-/// The square of the box in the state at a place.
+/// Returns the square of the box in the state at a place.
 fn square(place: usize) -> Sq
     requires { place < 80 }
     ensures { result < 64 }
@@ -75,7 +75,7 @@ fn square(place: usize) -> Sq
     (place / 2 + place % 2) as Sq
 }
 
-/// Enters the state at a place: by its key, or as the one to which a push from the first leads.
+/// Enters the state at a place: by its key, or as the state after a push from the first one.
 fn enter(table: &mut Table, key: &Key, place: usize) -> Result<(usize, bool), Memory>
     requires wide { 64 ≤ table.old.room }
     requires exist { All (λ square. square < 64) key.now.boxes }
@@ -89,8 +89,8 @@ fn enter(table: &mut Table, key: &Key, place: usize) -> Result<(usize, bool), Me
     table.insert_next(0, 0, square(place), 1, depth)
 }
 
-/// Whether the first state, which is there, keeps its place and its depth where it is entered once
-/// more, which needs no memory.
+/// Returns whether the first state keeps its place and its depth if it is entered again, which
+/// needs no memory.
 fn stays(alloc: Global, table: &mut Table, place: usize) -> Result<bool, Memory>
     requires wide { 64 ≤ table.old.room }
     requires few { place < 80 }
@@ -101,7 +101,7 @@ fn stays(alloc: Global, table: &mut Table, place: usize) -> Result<bool, Memory>
     Ok(answer == Ok((0, false)) && has_first(alloc, table, place + 1)?)
 }
 
-/// Whether a table has the first states, so many, and no others.
+/// Returns whether a table has the first `count` states, and no others.
 fn has_first(alloc: Global, table: &Table, count: usize) -> Result<bool, Memory>
     requires wide { 64 ≤ table.now.room }
     requires few { count ≤ 80 }
@@ -115,7 +115,7 @@ fn has_first(alloc: Global, table: &Table, count: usize) -> Result<bool, Memory>
     Ok(table.len() == count)
 }
 
-/// Whether a table has a key at a place, with this depth.
+/// Returns whether a table has a key at a place, with the place as its depth.
 fn has(table: &Table, key: &Key, place: usize) -> bool
     requires wide { 64 ≤ table.now.room }
     requires exist { All (λ square. square < 64) key.now.boxes }
@@ -126,7 +126,7 @@ fn has(table: &Table, key: &Key, place: usize) -> bool
     at == place && at < table.len() && table.depth(at) as usize == place
 }
 
-/// Whether a table has no such key.
+/// Returns whether a table does not have a key.
 fn lacks(table: &Table, key: &Key) -> bool
     requires wide { 64 ≤ table.now.room }
     requires exist { All (λ square. square < 64) key.now.boxes }

@@ -1,25 +1,27 @@
-//! What comes of a run.
+//! The outcome of a run.
 
 use std::fmt;
 
-/// What comes of a run, or of a call in it.
+/// The outcome of a run, or of a call in it.
 #[derive(Clone, Copy, PartialEq, Eq)]
 pub(crate) enum Told {
-    /// It answered what it should, and left what it should.
+    /// It answered and left what it should.
     Same,
-    /// Memory was refused to it, what was lent to it stayed, and once more it did what it should.
+    /// Memory was refused to it, which left its arguments as they were; again, it did what it
+    /// should.
     Refused,
     /// It did something else, at this place.
     Other(usize),
 }
 
 impl Told {
-    /// This where a call did what it should, and else that it did something else at its place.
+    /// Returns this outcome if a call did what it should, and otherwise that it did not, at its
+    /// place.
     pub(crate) fn checked(self, holds: bool, place: usize) -> Told {
         if holds { self } else { Told::Other(place) }
     }
 
-    /// What comes of this and then of another call.
+    /// Returns the outcome of this call and then of another one.
     pub(crate) fn then(self, next: Told) -> Told {
         match (self, next) {
             (Told::Other(place), _) => Told::Other(place),

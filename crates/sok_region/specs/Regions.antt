@@ -1,4 +1,4 @@
--- Where the player comes without a push, as squares by their numbers.
+-- The player's region, as squares by their numbers.
 use Rattle.std.specs.Prelude.{ℕ, ◌≡◌, ◌<◌, ◌≤◌, ◌↔◌, ◌*◌, List, Some, true, All, Contains, filter, length}
 use Rattle.std.specs.List.{range_with_len}
 use Rattle.std.specs.List.Sorted.{IsStrictlyIncreasing}
@@ -9,14 +9,14 @@ use Rattle.sok_board.specs.Area.{BoardView, position_of}
 use Rattle.sok_board.specs.Spans.{word_bits}
 use Rattle.sok_field.specs.Numbers.{has_number}
 
--- numbers of squares that make a position: boxes rising, and the player on none of them
+-- numbers of squares that make a position: boxes in ascending order, and the player on none of them
 pub record IsPlaced (b : BoardView) (boxes : List ℕ) (player : ℕ) : Type 0 where
   pub rising : IsStrictlyIncreasing boxes
   pub boxes_exist : All (λ n. n < length b.area) boxes
   pub player_exists : player < length b.area
   pub free : Contains boxes player → ⊥
 
--- the squares from which the position is the same state, rising
+-- the squares on which the player is in the same state, in ascending order
 pub record IsRegion (b : BoardView) (boxes : List ℕ) (player : ℕ) (region : List ℕ) : Type 0 where
   pub placed : IsPlaced b boxes player
   pub rising : IsStrictlyIncreasing region
@@ -28,16 +28,16 @@ pub record IsRegionOf (b : BoardView) (region : List ℕ) : Type 0 where
   pub player : ℕ
   pub is : IsRegion b boxes player region
 
--- letters without a push that lead from one square to another
+-- a walk from one square to another: letters without a push
 pub record IsWalkBetween (b : BoardView) (boxes : List ℕ) (from to : ℕ) (w : List Dir) : Type 0 where
   pub leads : run b.rows (position_of b from boxes) w ≡ Some (position_of b to boxes)
   pub quiet : pushes b.rows (position_of b from boxes) w ≡ 0
 
--- letters that are no more than those of any walk from the one square to the other
+-- no walk from the one square to the other is shorter
 abbrev pub IsLeastWalk : BoardView → List ℕ → ℕ → ℕ → List Dir → Type 0
 IsLeastWalk b boxes from to w = (v : List Dir) → IsWalkBetween b boxes from to v → length w ≤ length v
 
--- the squares whose bits are set, rising
+-- the squares whose bits are set, in ascending order
 unfoldable pub squares_of : List ℕ → List ℕ
 squares_of words = filter (has_number words) (range_with_len 0 (word_bits * length words))
 

@@ -1,4 +1,4 @@
--- Positions that differ by walking alone, and their players by number.
+-- Positions that differ only by walking, and the numbers of their players' squares.
 use Rattle.std.specs.Prelude.{ℕ, ◌≡◌, List, Some, false}
 use Rattle.sok_rules.specs.declared.cell.Dir.{Dir}
 use Rattle.sok_rules.specs.Squares.{Rows}
@@ -13,14 +13,14 @@ IsReflexive rows = (x : Position) → Same rows x x
 abbrev pub IsTransitive : Rows → Type 0
 IsTransitive rows = (x y z : Position) → Same rows x y → Same rows y z → Same rows x z
 
--- walking back undoes walking, from where the player stands on a square of the area and on no box
+-- walking back undoes walking, provided that the player stands on a square of the area without a box
 abbrev pub IsSymmetric : Rows → Type 0
 IsSymmetric rows = (x y : Position) → InArea rows x.man → x.boxes x.man ≡ false → Same rows x y → Same rows y x
 
 abbrev pub KeepsBoxes : Rows → Type 0
 KeepsBoxes rows = (x y : Position) (w : List Dir) → run rows x w ≡ Some y → pushes rows x w ≡ 0 → y.boxes ≡ x.boxes
 
--- the player stays in the area, on a square with a number
+-- walking keeps the player in the area, on a square with a number and without a box
 abbrev pub KeepsNumbers : BoardView → Type 0
 KeepsNumbers b =
     (boxes : List ℕ) (player : ℕ) (y : Position) → IsPlaced b boxes player → Same b.rows (position_of b player boxes) y

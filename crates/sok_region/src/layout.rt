@@ -1,4 +1,4 @@
-//! The boxes of a state, laid out over the squares of the area.
+//! The layout of a state's boxes over the squares of the area.
 
 ghost use Rattle.std.specs.Prelude.{ℕ, List, ◌≡◌, ◌<◌, ◌↔◌, ◌⊎◌, [], OnErr, OnOk, IsTrue, All, Contains};
 ghost use Rattle.std.specs.Prelude.{◌==◌, if◌then◌else◌, length};
@@ -17,8 +17,8 @@ use sok_rules::fault::Memory;
 use std::alloc::Global;
 use std::marker::Model;
 
-/// The boxes of a state, and the squares of the area that they leave free, in bit rows; laid out
-/// once for a state, and changed in place by a push and back.
+/// The boxes of a state, and the sets of squares that they take and leave free. It is built once
+/// for a state, and changed in place by a push and back.
 #[derive(Drop)]
 pub struct Layout {
     area: Field,
@@ -41,7 +41,7 @@ impl Model for Layout {
 }
 
 impl Layout {
-    /// The layout without a box. It keeps the allocator for the list of boxes.
+    /// Returns a layout without boxes. It keeps the allocator for the list of boxes.
     pub fn new(alloc: Global, board: &Board) -> Layout
         ensures laid { IsLaidOut board.now [] result }
         ensures accepted { IsAccepted board.now }
@@ -54,8 +54,8 @@ impl Layout {
         }
     }
 
-    /// Lays out some boxes in place of those before. It refuses only for want of memory, and then
-    /// the layout stays: it asks first for room to list the boxes.
+    /// Replaces the boxes with others. It first reserves room for their list. Errors: `Memory`;
+    /// then the layout stays as it was.
     pub fn lay(&mut self, board: &Board, boxes: &[Sq]) -> Result<(), Memory>
         requires accepted { IsAccepted board.now }
         requires exist { All (λ square. square < length board.now.area) boxes.now }
@@ -73,21 +73,21 @@ impl Layout {
         Ok(())
     }
 
-    /// The boxes, in any order.
+    /// Returns the boxes, in any order.
     pub fn boxes(&self) -> &[Sq]
         ensures { result.now ≡ self.now.boxes }
     {
         &self.boxes
     }
 
-    /// The squares of the boxes.
+    /// Returns the squares of the boxes.
     pub fn boxed(&self) -> &Field
         ensures { result.now ≡ self.now.boxed }
     {
         &self.boxed
     }
 
-    /// The squares that the boxes leave free.
+    /// Returns the squares that the boxes leave free.
     pub fn free(&self) -> &Field
         ensures { result.now ≡ self.now.free }
     {
@@ -111,7 +111,7 @@ impl Layout {
     }
 }
 
-/// Puts the squares of boxes into a set without squares.
+/// Puts the squares of boxes into an empty set.
 pub fn put_boxes(field: &mut Field, board: &Board, boxes: &[Sq])
     requires accepted { IsAccepted board.now }
     requires exist { All (λ square. square < length board.now.area) boxes.now }
@@ -133,7 +133,7 @@ fn put(field: &mut Field, board: &Board, square: Sq)
     field.put(board.spot(square));
 }
 
-/// Takes a square of the area out of a set.
+/// Removes a square of the area from a set.
 fn take(field: &mut Field, board: &Board, square: Sq)
     requires accepted { IsAccepted board.now }
     requires exists { square < length board.now.area }
@@ -143,7 +143,7 @@ fn take(field: &mut Field, board: &Board, square: Sq)
     field.take(board.spot(square));
 }
 
-/// Has one square stand for another in a list.
+/// Replaces one square with another in a list.
 fn replace(squares: &mut [Sq], from: Sq, to: Sq)
     ensures { squares.new ≡ replaced from to squares.old }
 {
@@ -152,7 +152,7 @@ fn replace(squares: &mut [Sq], from: Sq, to: Sq)
     }
 }
 
-/// The square that stands for one.
+/// Returns `to` for `from`, and any other square itself.
 fn replaced(square: Sq, from: Sq, to: Sq) -> Sq
     ensures { result ≡ (if square == from then to else square) }
 {

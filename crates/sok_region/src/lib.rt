@@ -1,11 +1,11 @@
-//! Where the player comes without a push, and boxes laid out over the squares of the area.
+//! The player's region, and the layout of boxes over the squares of the area.
 //!
 //! | Module | What it holds |
 //! |---|---|
 //! | `law` | being the same state |
-//! | `layout` | the boxes of a state, laid out over the squares of the area |
-//! | `path` | the squares that are let through as the ways of a search |
-//! | `region` | where the player comes without a push |
+//! | `layout` | the layout of a state's boxes over the squares of the area |
+//! | `path` | the passable squares of a board, as a graph that is searched (private) |
+//! | `region` | the squares that the player reaches without a push |
 #![tactic(auto)]
 
 pub mod law;

@@ -1,4 +1,4 @@
-//! The squares of a board that are let through, as the ways of a search from one of them.
+//! The passable squares of a board, as a graph that is searched from one of them.
 
 ghost use Rattle.std.specs.Prelude.{◌<◌, length};
 ghost use Rattle.sok_field.specs.Numbers.{has_number};
@@ -10,8 +10,8 @@ use sok_board::search::Ways;
 use sok_field::numbers;
 use sok_rules::cell::Dir;
 
-/// The squares of a board; a letter leads to the square beside, if that is let through. Which are
-/// is told by bits of their numbers.
+/// The graph of the passable squares of a board. A letter leads to the square beside, if that is
+/// passable; `lets` has a bit for each passable square, by its number.
 #[derive(Drop)]
 pub(crate) struct Paths<'a> {
     pub(crate) board: &'a Board,

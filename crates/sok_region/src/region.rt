@@ -1,4 +1,4 @@
-//! Where the player comes without a push.
+//! The player's region: the squares that he reaches without a push.
 
 ghost use Rattle.std.specs.Prelude.{ℕ, ◌≡◌, ◌≤◌, ◌↔◌, IfOk, IfSome, IsOk, IsSome, IsTrue, List};
 ghost use Rattle.std.specs.Prelude.{Contains, length};
@@ -19,8 +19,8 @@ use sok_rules::fault::Memory;
 use std::alloc::Global;
 use std::marker::Model;
 
-/// The squares to which the player comes without a push, a bit for each. A region is seen as the
-/// list of its squares, rising. It takes no memory.
+/// The squares that the player reaches without a push, a bit for each. The contracts see a region
+/// as the list of its squares, in ascending order. It allocates nothing.
 #[derive(Drop)]
 pub struct Region {
     words: [u64; WORDS],
@@ -38,7 +38,7 @@ impl Model for Region {
 }
 
 impl Region {
-    /// The region of the player among boxes. It takes no memory, and never refuses.
+    /// Returns the region of the player among boxes. It allocates nothing, and never fails.
     pub fn of(_alloc: Global, board: &Board, boxes: &BoxSet, player: Sq) -> Result<Region, Memory>
         requires { IsPlaced board.now boxes.now player }
         ensures region { IfOk result (λ region. IsRegion board.now boxes.now player region) }
@@ -50,14 +50,14 @@ impl Region {
         Ok(Region { words })
     }
 
-    /// Whether the player comes to a square.
+    /// Returns whether the player reaches a square.
     pub fn has(&self, square: Sq) -> bool
         ensures { IsTrue result ↔ Contains self.now square }
     {
         numbers::has(&self.words, square)
     }
 
-    /// The square with the least number.
+    /// Returns the square with the least number.
     pub fn least(&self) -> Sq
         ensures among { Contains self.now result }
         ensures least { (s : ℕ) → Contains self.now s → result ≤ s }
@@ -68,9 +68,9 @@ impl Region {
         }
     }
 
-    /// A shortest list of letters that leads the player from one square to another without a push,
-    /// by a breadth first search, and None where one of them is not in the region. The board is
-    /// that of the region. It refuses only for want of memory.
+    /// Finds a shortest list of letters that leads the player from one square to another without a
+    /// push, by breadth-first search. None if one of them is not in the region. The board is that
+    /// of the region. Errors: `Memory`.
     pub fn walk(
         &self,
         alloc: Global,
@@ -96,7 +96,8 @@ impl Region {
     }
 }
 
-/// Makes words the region of the player among boxes, a bit for each square: a flood over bit rows.
+/// Overwrites `words` with the region of the player among boxes, a bit for each square, by a flood
+/// over bit rows.
 fn write(words: &mut [u64], board: &Board, boxes: &BoxSet, player: Sq)
     requires placed { IsPlaced board.now boxes.now player }
     requires room { length words.old ≡ WORDS }

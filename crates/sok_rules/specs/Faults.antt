@@ -1,4 +1,4 @@
--- How faults are printed: their numbers, and their names with their arguments, each after one space.
+-- How faults are printed: the number of each, and its name, followed by one space and its argument if it has one.
 use Rattle.std.specs.Prelude.{ℕ, List, ◌++◌, codes}
 use Rattle.std.specs.Fmt.{decimal}
 use Rattle.sok_rules.specs.declared.cell.Dir.{Dir}
@@ -38,7 +38,7 @@ play_fault_words (play.Blocked at) = codes "Blocked " ++ decimal at
 play_fault_words play.TooLong = codes "TooLong"
 play_fault_words play.Memory = codes "Memory"
 
--- a direction, as an argument
+-- the name of a direction, as it is printed in an argument
 abbrev pub dir_word : Dir → List ℕ
 dir_word Left = codes "left"
 dir_word Up = codes "up"

@@ -1,4 +1,4 @@
--- What a session keeps beside the letters.
+-- What a session stores in addition to its letters.
 use Rattle.std.specs.Prelude.{ℕ, ◌≡◌, ◌≤◌, List, Bool, Some, IsSome, length, take}
 use Rattle.sok_rules.specs.declared.cell.Dir.{Dir}
 use Rattle.sok_rules.specs.Squares.{Rows}
@@ -8,7 +8,7 @@ use Rattle.sok_rules.specs.Play.{pushes, run, start}
 use Rattle.sok_rules.specs.Replay.{push_marks}
 use Rattle.sok_rules.specs.Scene.{SameGround}
 
--- the scene is where the letters played lead, all letters are legal, and it is known which of them push
+-- the invariant of a session: all letters are legal, `pushed` says which of them push, and the scene shows the position after the letters played
 pub record IsSession (rows scene : Rows) (letters : List Dir) (pushed : List Bool) (played pushes_played : ℕ) : Type 0 where
   pub proper : IsProper rows
   pub mark : played ≤ length letters

@@ -10,11 +10,11 @@ use Rattle.sok_rules.specs.declared.fault.LevelFault.TheVariants.{TooWide, TooTa
 use Rattle.sok_rules.specs.Limits.{size_limit}
 use Rattle.sok_rules.specs.Squares.{Rows, is_box, is_man, is_wall}
 
--- the cells of rows that are vectors
+-- rows that are vectors, as lists of cells
 abbrev pub cells_of : {A : Type 0} → List (Vec Cell A) → Rows
 cells_of rows = map (λ row. row.items) rows
 
--- a cell before a row's rest, but no floor at the end of a row
+-- a row with a cell put in front; floor in front of an empty row is left out
 abbrev pub onto : Cell → List Cell → List Cell
 onto Floor [] = []
 onto cell row = cell ∷ row
@@ -24,11 +24,11 @@ abbrev pub trimmed : List Cell → List Cell
 trimmed [] = []
 trimmed (cell ∷ row) = onto cell (trimmed row)
 
--- how many cells pass a test
+-- the number of cells that pass a test
 abbrev pub count_in : (Cell → Bool) → Rows → ℕ
 count_in test rows = sum_by (count_by test) rows
 
--- rows of so many cells at most, and so many of them, a wall in each, one player, and a box
+-- at most `size` rows of at most `size` cells, with a wall in each row, one player, and at least one box
 pub record IsProperIn (size : ℕ) (rows : Rows) : Type 0 where
   pub few_rows : length rows ≤ size
   pub few_columns : All (λ row. length row ≤ size) rows
@@ -36,7 +36,7 @@ pub record IsProperIn (size : ℕ) (rows : Rows) : Type 0 where
   pub one_man : count_in is_man rows ≡ 1
   pub some_box : IsTrue (list_any (list_any is_box) rows)
 
--- so many as a level may have
+-- the same with the size limit of levels
 abbrev pub IsProper : Rows → Type 0
 IsProper rows = IsProperIn size_limit rows
 
@@ -52,7 +52,7 @@ IsLevel rows = IsLevelIn size_limit rows
 abbrev pub row_without_wall : Rows → Option ℕ
 row_without_wall rows = position (λ row. not (list_any is_wall row)) rows
 
--- the first fault of rows, in the order of refusal
+-- the first fault of rows, in the order in which faults are looked for
 unfoldable pub fault_of : Rows → Option LevelFault
 fault_of rows =
     if nat_lt size_limit (length rows) then Some TooTall
@@ -64,6 +64,6 @@ fault_of rows =
     else Some NoBox
     )
 
--- rows without floor at their ends, if they are a level then, or their first fault
+-- the rows without floor at their ends, if they are a level; otherwise their first fault
 unfoldable pub level_of : Rows → Result Rows LevelFault
 level_of rows = elim (fault_of (map trimmed rows)) [ None ↦ Ok (map trimmed rows) | Some fault ↦ Err fault ]

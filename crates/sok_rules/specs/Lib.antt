@@ -1,5 +1,5 @@
--- Words of public contracts: `Faults`, `Levels`, `Limits`, `Play`, `Replay`, `Session`, `Squares`, `States`.
--- The proof's own: `Kept` (what a session keeps beside its letters) and `Scene` (cells in the middle of play).
+-- Definitions that public contracts use: `Faults`, `Levels`, `Limits`, `Play`, `Replay`, `Session`, `Squares`, `States`.
+-- Definitions for the proofs alone: `Kept` (what a session stores in addition to its letters) and `Scene` (the cells during play).
 pub mod Faults
 pub mod Kept
 pub mod Levels

@@ -20,11 +20,11 @@ pub record After : Type 0 where
   pub position : Position
   pub pushed : Bool
 
--- a set of squares without from and with to
+-- a set of squares, from which `from` is removed and to which `to` is then added
 unfoldable pub moved : (Spot → Bool) → Spot → Spot → Spot → Bool
 moved boxes from to s = if same_spot s to then true else if same_spot s from then false else boxes s
 
--- the player enters q, and a box there goes on to t
+-- a push: the player enters `q`, and the box there moves on to `t`, which must be open and without a box
 abbrev pub push : Rows → Position → Spot → Spot → Option After
 push rows x q t =
     if holds is_open rows t && not (x.boxes t) then Some (record { position = record { man = q; boxes = moved x.boxes q t }; pushed = true }) else None
@@ -35,11 +35,11 @@ enter rows d x q =
     else if x.boxes q then option_and_then (push rows x q) (next d q)
     else Some (record { position = record x { man = q }; pushed = false })
 
--- what one letter leads to, if it is legal
+-- the position after one letter, if it is legal
 abbrev pub step : Rows → Dir → Position → Option After
 step rows d x = option_and_then (enter rows d x) (next d x.man)
 
--- where a list of letters leads, if all of it is legal
+-- the position after a list of letters, if all of them are legal
 abbrev pub run : Rows → Position → List Dir → Option Position
 run rows x [] = Some x
 run rows x (d ∷ w) = option_and_then (λ after. run rows after.position w) (step rows d x)
@@ -48,7 +48,7 @@ abbrev pub one_if : Bool → ℕ
 one_if true = 1
 one_if false = 0
 
--- how many letters of a legal list push
+-- the number of letters that push, in a legal list
 abbrev pub pushes : Rows → Position → List Dir → ℕ
 pushes rows x [] = 0
 pushes rows x (d ∷ w) = option_map_or (λ after. one_if after.pushed + pushes rows after.position w) (step rows d x) 0
@@ -63,7 +63,7 @@ SolvesFrom rows x w = IsSomeAnd (run rows x w) (AllOnGoals rows)
 abbrev pub Solves : Rows → List Dir → Type 0
 Solves rows w = SolvesFrom rows (start rows) w
 
--- no legal list from the position solves with fewer pushes
+-- every list that solves from the position has at least `n` pushes
 abbrev pub AtLeastFrom : Rows → Position → ℕ → Type 0
 AtLeastFrom rows x n = (w : List Dir) → SolvesFrom rows x w → n ≤ pushes rows x w
 
@@ -75,7 +75,7 @@ pub record IsFewest (rows : Rows) (n : ℕ) : Type 0 where
   pub least : AtLeast rows n
   pub reached : (w : List Dir) × Solves rows w × (pushes rows (start rows) w ≡ n)
 
--- no legal list from the position solves
+-- no list of letters solves from the position
 abbrev pub NeverFrom : Rows → Position → Type 0
 NeverFrom rows x = (w : List Dir) → ¬ (SolvesFrom rows x w)
 

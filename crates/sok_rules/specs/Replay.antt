@@ -1,4 +1,4 @@
--- What replaying a list of letters tells.
+-- The result of a replay of a list of letters.
 use Rattle.std.specs.Prelude.{ℕ, ◌≡◌, ◌+◌, ◌<◌, ◌↔◌, List, [], ◌∷◌, Bool, length, take, IsSome, IsNone, IsTrue}
 use Rattle.std.specs.Option.{option_map_or}
 use Rattle.sok_rules.specs.declared.cell.Dir.{Dir}
@@ -8,7 +8,7 @@ use Rattle.sok_rules.specs.declared.play.Tally.{Tally}
 use Rattle.sok_rules.specs.Squares.{Rows}
 use Rattle.sok_rules.specs.Play.{Position, start, step, run, pushes, Solves}
 
--- the list is legal, and this is what became of it
+-- the list is legal, and the tally is its result
 pub record IsTally (rows : Rows) (w : List Dir) (tally : Tally) : Type 0 where
   pub legal : IsSome (run rows (start rows) w)
   pub solved : IsTrue tally.solved ↔ Solves rows w
@@ -21,12 +21,12 @@ pub record IsBlockedAt (rows : Rows) (w : List Dir) (at : ℕ) : Type 0 where
   pub legal : IsSome (run rows (start rows) (take at w))
   pub blocked : IsNone (run rows (start rows) (take (at + 1) w))
 
--- which letters of a legal list push
+-- for each letter of a legal list, whether it pushes
 abbrev pub push_marks : Rows → Position → List Dir → List Bool
 push_marks rows x [] = []
 push_marks rows x (d ∷ w) = option_map_or (λ after. after.pushed ∷ push_marks rows after.position w) (step rows d x) []
 
--- the list is legal, and these of its letters push
+-- the list is legal, and the marks say which of its letters push
 pub record AreMarks (rows : Rows) (w : List Dir) (marks : List Bool) : Type 0 where
   pub legal : IsSome (run rows (start rows) w)
   pub are : marks ≡ push_marks rows (start rows) w

@@ -10,13 +10,13 @@ use Rattle.sok_rules.specs.Limits.{letter_limit}
 use Rattle.sok_rules.specs.Squares.{Rows, cell_at, is_goal, is_open, same_spot}
 use Rattle.sok_rules.specs.Play.{Position, run, start, step}
 
--- played is in order of play, and undone has the letter that redo plays next at its front
+-- the letters of a session: `played` is in order of play, and the first letter of `undone` is the one that `redo` plays next
 pub record Letters : Type 0 where
   pub rows : Rows
   pub played : List Dir
   pub undone : List Dir
 
--- where the played letters lead
+-- the position after the letters played
 abbrev pub position_of : Letters → Option Position
 position_of letters = run letters.rows (start letters.rows) letters.played
 
@@ -24,17 +24,17 @@ position_of letters = run letters.rows (start letters.rows) letters.played
 abbrev pub at_start : Rows → Letters
 at_start rows = record { rows = rows; played = []; undone = [] }
 
--- one letter more is played, and none is undone
+-- one more letter is played, and none is undone any more
 abbrev pub with_letter : Letters → Dir → Letters
 with_letter old d = record old { played = old.played ++ d ∷ []; undone = [] }
 
--- the letter is legal after those played, and pushes or not
+-- fewer letters than the limit are played, and the letter is legal after them; `pushed` says whether it pushes
 pub record StepsOn (old : Letters) (d : Dir) (new : Letters) (pushed : Bool) : Type 0 where
   pub after : new ≡ with_letter old d
   pub few : length old.played < letter_limit
   pub legal : IsSomeAnd (position_of old) (λ x. IsSomeAnd (step old.rows d x) (λ a. a.pushed ≡ pushed))
 
--- why a letter is not played; behind one that was undone there is room for it
+-- why a letter is not played; `Memory` comes only if no letter is undone
 abbrev pub IsStepFault : Letters → Dir → PlayFault → Type 0
 IsStepFault old d TooLong = length old.played ≡ letter_limit
 IsStepFault old d (Blocked at) = (length old.played < letter_limit) × (at ≡ length old.played) × IsNone (position_of (with_letter old d))
@@ -45,21 +45,21 @@ pub record StaysAt (old : Letters) (d : Dir) (new : Letters) (fault : PlayFault)
   pub unchanged : new ≡ old
   pub cause : IsStepFault old d fault
 
--- the last letter played becomes the first of those undone
+-- the last letter played becomes the first letter of `undone`
 pub record Undoes (old new : Letters) : Type 0 where
   pub rows : new.rows ≡ old.rows
   pub d : Dir
   pub played : old.played ≡ new.played ++ d ∷ []
   pub undone : new.undone ≡ d ∷ old.undone
 
--- the first letter undone is played again
+-- the first letter of `undone` is played again
 pub record Redoes (old new : Letters) : Type 0 where
   pub rows : new.rows ≡ old.rows
   pub d : Dir
   pub undone : old.undone ≡ d ∷ new.undone
   pub played : new.played ≡ old.played ++ d ∷ []
 
--- what shows at a cell, where a box or the player may stand now
+-- the cell that is shown, given whether a box or the player stands there now
 abbrev pub shown_cell : Cell → Bool → Bool → Cell
 shown_cell cell box_there man_there =
     if not (is_open cell) then Wall
@@ -67,6 +67,6 @@ shown_cell cell box_there man_there =
     else if man_there then (if is_goal cell then ManOn else ManOff)
     else if is_goal cell then Goal else Floor
 
--- what shows at a square in a position, if a row has the square
+-- the cell that is shown on a square in a position, if a row has the square
 abbrev pub cell_in_play : Rows → Position → Spot → Option Cell
 cell_in_play rows x s = option_map (λ cell. shown_cell cell (x.boxes s) (same_spot x.man s)) (cell_at rows s)

@@ -11,7 +11,7 @@ use Rattle.sok_rules.specs.declared.cell.Spot.{Spot}
 abbrev pub Rows : Type 0
 Rows = List (List Cell)
 
--- what stands at a place, if a row has it
+-- what stands on a square, if a row has the square
 abbrev pub cell_at : Rows → Spot → Option Cell
 cell_at rows s = option_and_then (λ row. slice_get row s.col) (slice_get rows s.row)
 
@@ -44,7 +44,7 @@ is_man ManOff = true
 is_man ManOn = true
 is_man _ = false
 
--- a test of the cell at a place, false where no row has it
+-- whether the cell on a square passes a test; false if no row has the square
 unfoldable pub holds : (Cell → Bool) → Rows → Spot → Bool
 holds test rows s = option_map_or test (cell_at rows s) false
 
@@ -53,7 +53,7 @@ abbrev pub before : ℕ → Option ℕ
 before zero = None
 before (suc n) = Some n
 
--- the square one step along; None left of column 0 and above row 0, where no row lies
+-- the next square in a direction; None left of column 0 and above row 0, where there are no rows
 abbrev pub next : Dir → Spot → Option Spot
 next Left s = option_map (λ c. record s { col = c }) (before s.col)
 next Up s = option_map (λ r. record s { row = r }) (before s.row)
@@ -63,7 +63,7 @@ next Down s = Some (record s { row = s.row + 1 })
 abbrev pub same_spot : Spot → Spot → Bool
 same_spot a b = (a.row == b.row) && (a.col == b.col)
 
--- the places of a row, from a column on
+-- the squares of row `r`, whose first cell is in column `c`
 unfoldable pub places_in_row : ℕ → ℕ → List Cell → List Spot
 places_in_row r c [] = []
 places_in_row r c (cell ∷ cells) = record { row = r; col = c } ∷ places_in_row r (c + 1) cells
@@ -72,7 +72,7 @@ unfoldable pub places_from : ℕ → Rows → List Spot
 places_from r [] = []
 places_from r (row ∷ rows) = places_in_row r 0 row ++ places_from (r + 1) rows
 
--- the places of a level's text, row by row
+-- the squares of a level's text, row by row
 unfoldable pub places : Rows → List Spot
 places rows = places_from 0 rows
 

@@ -1,4 +1,4 @@
-//! What stands on a square, the four directions, and squares by row and column.
+//! Cells of a level, the four directions, and squares by row and column.
 
 ghost use Rattle.std.specs.Prelude.{◌≡◌, ◌+◌, ◌<◌, ◌^◌, Some};
 ghost use Rattle.sok_rules.specs.Faults.{dir_word};
@@ -7,15 +7,15 @@ ghost use Rattle.sok_rules.specs.Squares.{next, opposite};
 
 use std::fmt;
 
-/// What stands on a square of a level's text.
+/// The contents of a square in a level's text.
 #[derive(Clone, Copy, Debug, PartialEq, Eq)]
 pub enum Cell {
     Wall,
     Floor,
     Goal,
-    /// A box that stands on floor.
+    /// A box on floor.
     BoxOff,
-    /// A box that stands on a goal.
+    /// A box on a goal.
     BoxOn,
     /// The player on floor.
     ManOff,
@@ -30,28 +30,28 @@ impl Cell {
         matches!(self, Cell::Wall)
     }
 
-    /// Whether a box stands there, on floor or on a goal.
+    /// Returns whether a box stands here, on floor or on a goal.
     pub fn is_box(self) -> bool
         ensures { result ≡ is_box self }
     {
         matches!(self, Cell::BoxOff | Cell::BoxOn)
     }
 
-    /// Whether a box stands there, off a goal.
+    /// Returns whether a box stands here that is not on a goal.
     pub fn is_astray(self) -> bool
         ensures { result ≡ is_astray self }
     {
         matches!(self, Cell::BoxOff)
     }
 
-    /// Whether it is a goal, also under a box or the player.
+    /// Returns whether this is a goal, also under a box or the player.
     pub fn is_goal(self) -> bool
         ensures { result ≡ is_goal self }
     {
         matches!(self, Cell::Goal | Cell::BoxOn | Cell::ManOn)
     }
 
-    /// Whether the player stands there, on floor or on a goal.
+    /// Returns whether the player stands here, on floor or on a goal.
     pub fn is_man(self) -> bool
         ensures { result ≡ is_man self }
     {
@@ -103,7 +103,7 @@ pub struct Spot {
 }
 
 impl Spot {
-    /// The square one step along. None left of column 0 and above row 0.
+    /// Returns the next square in a direction. `None` left of column 0 and above row 0.
     pub fn next(self, dir: Dir) -> Option<Spot>
         requires row { self.row + 1 < 2 ^ 32 }
         requires col { self.col + 1 < 2 ^ 32 }

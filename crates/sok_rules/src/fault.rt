@@ -1,4 +1,4 @@
-//! Why rows are no level, and why letters cannot be played.
+//! Why rows are not a level, and why letters cannot be played.
 
 ghost use Rattle.std.specs.Prelude.{◌≡◌, Some};
 ghost use Rattle.sok_rules.specs.Faults.{level_fault_number, level_fault_words};
@@ -10,8 +10,8 @@ use std::alloc::{AllocError, AllocFailed};
 use std::fmt;
 use thiserror::Error;
 
-/// Why rows are no level, or why there is no level at all. It is displayed as its name and its
-/// argument.
+/// Why rows are not a level, or why there is no level at all. It is displayed as its name, followed
+/// by its argument if it has one.
 #[derive(Clone, Copy, Debug, PartialEq, Eq, Error)]
 pub enum LevelFault {
     /// A row has more than 128 cells.
@@ -21,16 +21,16 @@ pub enum LevelFault {
     NoPlayer,
     ManyPlayers,
     NoBox,
-    /// A collection has no level of this number.
+    /// A collection has no level with this number.
     NoSuchLevel,
-    /// The first row without a wall, counted from 0.
+    /// A row has no wall: the first such row, counted from 0.
     NoWall(u32),
     /// Memory was refused.
     Memory,
 }
 
 impl LevelFault {
-    /// The number by which the fault is printed.
+    /// Returns the number with which the fault is printed.
     pub fn number(&self) -> u8
         ensures { result ≡ level_fault_number self.now }
     {
@@ -80,19 +80,20 @@ impl<T: Drop> From<AllocFailed<T>> for LevelFault {
     }
 }
 
-/// Why a letter, or a list of letters, is not played. It is displayed as its name and its argument.
+/// Why a letter or a list of letters is not played. It is displayed as its name, followed by its
+/// argument if it has one.
 #[derive(Clone, Copy, Debug, PartialEq, Eq, Error)]
 pub enum PlayFault {
-    /// The place, from 0, of the first letter that is not legal.
+    /// A letter is not legal: the place of the first such letter, counted from 0.
     Blocked(usize),
-    /// 1,000,000 letters are played already.
+    /// 1,000,000 letters have been played already.
     TooLong,
     /// Memory was refused.
     Memory,
 }
 
 impl PlayFault {
-    /// The number by which the fault is printed.
+    /// Returns the number with which the fault is printed.
     pub fn number(&self) -> u8
         ensures { result ≡ play_fault_number self.now }
     {
@@ -140,13 +141,13 @@ impl From<Memory> for PlayFault {
     }
 }
 
-/// Memory was refused, where nothing else can go wrong.
+/// The fault of calls that fail only if memory is refused.
 #[derive(Clone, Copy, Debug, PartialEq, Eq, Error)]
 #[error("Memory")]
 pub struct Memory;
 
 impl Memory {
-    /// The number by which the fault is printed.
+    /// Returns the number with which the fault is printed.
     pub fn number(&self) -> u8
         ensures { result ≡ 40 }
     {

@@ -1,4 +1,4 @@
-//! Rows of cells that are a level.
+//! Levels, which are rows of cells.
 
 ghost use Rattle.std.specs.Prelude.{◌≡◌, ◌↔◌, IsOk, IfOk, map, take, count_by, ◌<◌, ◌^◌, nat_lt};
 ghost use Rattle.std.specs.Prelude.{length, position, not, sum_by};
@@ -12,11 +12,11 @@ use crate::fault::{LevelFault, Memory};
 use std::alloc::Global;
 use std::marker::Model;
 
-/// The most rows that a level has, and the most cells of a row.
+/// The maximum number of rows of a level, and of cells in a row.
 pub const LIMIT: usize = 128;
 
-/// A level: at most 128 rows of at most 128 cells, each row with a wall and without floor at its
-/// end, with one player and at least one box. It is seen as its rows.
+/// A level: at most 128 rows of at most 128 cells. Each row has a wall and does not end with floor.
+/// There is one player and at least one box. Contracts see a level as its rows.
 #[derive(Drop)]
 pub struct Level {
     rows: Vec<Vec<Cell>>,
@@ -34,10 +34,12 @@ impl Model for Level {
 }
 
 impl Level {
-    /// Makes a level of rows. Floor at the ends of rows is dropped first. Refused are, in this
-    /// order, more than 128 rows, a row of more than 128 cells, a row without a wall (the first such
-    /// row), no player, several players, and no box. It takes no memory, and refused rows are
-    /// dropped.
+    /// Makes a level of `rows`, after it has removed the floor at the end of each row. Takes no
+    /// memory. On an error, the rows are dropped.
+    ///
+    /// Errors, in this order: `TooTall` if there are more than 128 rows; `TooWide` if a row has
+    /// more than 128 cells; `NoWall` with the first row without a wall; `NoPlayer`; `ManyPlayers`;
+    /// `NoBox`.
     pub fn new(rows: Vec<Vec<Cell>>) -> Result<Level, LevelFault>
         ensures made { result ≡ level_of (cells_of rows.items) }
         ensures proper { IsOk result ↔ IsProper (map trimmed (cells_of rows.items)) }
@@ -49,7 +51,7 @@ impl Level {
         }
     }
 
-    /// A level with the same rows.
+    /// Returns a level with the same rows.
     pub fn copy(&self, alloc: Global) -> Result<Level, Memory>
         ensures same { IfOk result (λ level. level ≡ self.now) }
         ensures proper { IsProper self.now }
@@ -58,7 +60,7 @@ impl Level {
         Ok(Level { rows })
     }
 
-    /// The rows, from the top.
+    /// Returns the rows, from the top.
     pub fn rows(&self) -> &[Vec<Cell>]
         ensures cells { cells_of result.now ≡ self.now }
         ensures proper { IsProper self.now }
@@ -67,7 +69,7 @@ impl Level {
         &self.rows
     }
 
-    /// What stands on a square at the start, and None where no row has the square.
+    /// Returns what stands on a square at the start. `None` if no row has the square.
     pub fn cell(&self, spot: Spot) -> Option<Cell>
         ensures { result ≡ cell_at self.now spot }
     {
@@ -75,7 +77,7 @@ impl Level {
     }
 }
 
-/// Rows without the floor at their ends.
+/// Removes the floor at the ends of rows.
 fn trim_all(mut rows: Vec<Vec<Cell>>) -> Vec<Vec<Cell>>
     ensures { cells_of result.items ≡ map trimmed (cells_of rows.items) }
 {
@@ -85,7 +87,7 @@ fn trim_all(mut rows: Vec<Vec<Cell>>) -> Vec<Vec<Cell>>
     rows
 }
 
-/// Drops the floor at the end of a row.
+/// Removes the floor at the end of a row.
 fn trim(row: &mut Vec<Cell>)
     ensures { row.new.items ≡ trimmed row.old.items }
 {
@@ -93,7 +95,7 @@ fn trim(row: &mut Vec<Cell>)
     row.truncate(kept);
 }
 
-/// The length of a row without the floor at its end.
+/// Returns the length of a row without the floor at its end.
 fn length_without_floor(row: &[Cell]) -> usize
     ensures { take result row.now ≡ trimmed row.now }
 {
@@ -104,7 +106,7 @@ fn length_without_floor(row: &[Cell]) -> usize
     kept
 }
 
-/// The first fault of rows, if they are no level.
+/// Returns the first fault of rows. `None` if they are a level.
 fn fault_in(rows: &[Vec<Cell>]) -> Option<LevelFault>
     ensures { result ≡ fault_of (cells_of rows.now) }
 {
@@ -141,7 +143,7 @@ fn is_long(row: &[Cell]) -> bool
     row.len() > LIMIT
 }
 
-/// The first row without a wall.
+/// Returns the first row without a wall.
 fn row_without_wall(rows: &[Vec<Cell>]) -> Option<usize>
     ensures { result ≡ position (λ row. not (list_any is_wall row.items)) rows.now }
 {
@@ -166,7 +168,7 @@ fn has_box_in(row: &[Cell]) -> bool
     row.iter().any(|cell| cell.is_box())
 }
 
-/// How many stand in rows.
+/// The number of players and of boxes off goals in rows.
 #[derive(Clone, Copy)]
 pub(crate) struct Census {
     /// The players.
@@ -202,7 +204,7 @@ fn astray_in(row: &[Cell]) -> usize
     row.iter().filter(|cell| cell.is_astray()).count()
 }
 
-/// What stands on a square, and None where no row has the square.
+/// Returns what stands on a square. `None` if no row has the square.
 pub(crate) fn cell_in(rows: &[Vec<Cell>], spot: Spot) -> Option<Cell>
     ensures { result ≡ cell_at (cells_of rows.now) spot }
 {

@@ -2,12 +2,12 @@
 //!
 //! | Module | What it holds |
 //! |---|---|
-//! | `cell` | what stands on a square, directions, and squares by row and column |
-//! | `fault` | why rows are no level, and why letters cannot be played |
-//! | `level` | rows of cells that are a level |
-//! | `play` | replaying a list of letters |
+//! | `cell` | cells, directions, and squares by row and column |
+//! | `fault` | why rows are not a level, and why letters cannot be played |
+//! | `level` | levels, which are rows of cells |
+//! | `play` | the replay of a list of letters |
 //! | `session` | play letter by letter, with undo and redo |
-//! | `scene` | a level's cells as they stand in the middle of play (private) |
+//! | `scene` | the cells of a level during play (private) |
 #![tactic(auto)]
 
 pub mod cell;

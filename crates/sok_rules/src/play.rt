@@ -1,4 +1,4 @@
-//! Replaying a list of letters.
+//! The replay of a list of letters.
 
 ghost use Rattle.std.specs.Prelude.{MatchResult};
 
@@ -8,7 +8,7 @@ use crate::level::Level;
 use crate::scene::Scene;
 use std::alloc::Global;
 
-/// What became of a list of letters that was played to its end.
+/// The result of a list of letters that was played to its end.
 #[derive(Clone, Copy, PartialEq, Eq)]
 pub struct Tally {
     /// Whether all boxes stand on goals at the end.
@@ -21,8 +21,10 @@ pub struct Tally {
 
 ghost use Rattle.sok_rules.specs.Replay.{AreMarks, IsTally, IsReplayFault};
 
-/// Plays a list of letters of any length from the start of a level. The last position alone says
-/// whether it solves. Refused where a letter is not legal, with the place of the first such letter.
+/// Plays a list of letters, of any length, from the start of a level. Only the last position
+/// decides whether the list solves the level.
+///
+/// Errors: `Blocked` with the place of the first letter that is not legal; `Memory`.
 pub fn replay(alloc: Global, level: &Level, dirs: &[Dir]) -> Result<Tally, PlayFault>
     ensures { MatchResult result (IsTally level.now dirs.now) (IsReplayFault level.now dirs.now) }
 {
@@ -41,8 +43,10 @@ pub fn replay(alloc: Global, level: &Level, dirs: &[Dir]) -> Result<Tally, PlayF
     })
 }
 
-/// Tells which letters of a list, of any length, push when they are played from the start of a
-/// level. Refused where a letter is not legal, with the place of the first such letter.
+/// Returns for each letter of a list, of any length, whether it pushes when the list is played from
+/// the start of a level.
+///
+/// Errors: `Blocked` with the place of the first letter that is not legal; `Memory`.
 pub fn mark_pushes(alloc: Global, level: &Level, dirs: &[Dir]) -> Result<Vec<bool>, PlayFault>
     ensures { MatchResult result
         (λ marks. AreMarks level.now dirs.now marks.items) (IsReplayFault level.now dirs.now) }

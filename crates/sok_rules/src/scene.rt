@@ -1,4 +1,4 @@
-//! A level's cells as they stand in the middle of play.
+//! The cells of a level during play.
 
 ghost use Rattle.std.specs.Prelude.{◌≡◌, ◌↔◌, ◌≤◌, ◌<◌, ◌^◌, ◌+◌, true, false, if◌then◌else◌};
 ghost use Rattle.std.specs.Prelude.{IsTrue, IfOk, IsSomeAnd, MatchOption, None};
@@ -23,8 +23,8 @@ pub(crate) enum Occupant {
     Box,
 }
 
-/// The cells of a level, with the player and the boxes where they stand now. It is seen as rows,
-/// whose start is the position.
+/// The cells of a level, with the player and the boxes where they stand now. Contracts see it as
+/// rows; the start of these rows is the position.
 #[derive(Drop)]
 pub(crate) struct Scene {
     cells: Vec<Vec<Cell>>,
@@ -48,7 +48,7 @@ impl Model for Scene {
 impl Scene {
     ghost use Rattle.sok_rules.specs.Scene.{SameGround, Steps, CameBy, IsBeside, NoneBeside};
 
-    /// The start of a level.
+    /// Makes the scene at the start of a level.
     pub(crate) fn new(alloc: Global, level: &Level) -> Result<Scene, Memory>
         ensures { IfOk result (λ scene. scene ≡ level.now) }
     {
@@ -58,7 +58,7 @@ impl Scene {
         Ok(Scene { cells, man, astray })
     }
 
-    /// Goes back to the start of the level that it began with.
+    /// Goes back to the start of `level`, with which the scene was made.
     pub(crate) fn restore(&mut self, level: &Level)
         requires { SameGround level.now self.old }
         ensures { self.new ≡ level.now }
@@ -70,7 +70,7 @@ impl Scene {
         self.astray = astray;
     }
 
-    /// The cell of a square, as it stands now.
+    /// Returns what stands on a square now. `None` if no row has the square.
     pub(crate) fn cell(&self, spot: Spot) -> Option<Cell>
         ensures cell { result ≡ cell_at self.now spot }
         ensures one_man { (s : Spot) → holds is_man self.now s ≡ same_spot (start self.now).man s }
@@ -84,8 +84,8 @@ impl Scene {
         self.astray == 0
     }
 
-    /// Plays one letter, and answers whether it pushed. None, with no change, where it is not
-    /// legal.
+    /// Plays one letter and returns whether it pushed. If it is not legal, returns `None` and
+    /// changes nothing.
     pub(crate) fn step(&mut self, dir: Dir) -> Option<bool>
         ensures { MatchOption result
             ((step self.old dir (start self.old) ≡ None) × (self.new ≡ self.old))
@@ -104,7 +104,8 @@ impl Scene {
         Some(true)
     }
 
-    /// Takes the last letter back: the player walks back, and a box that he pushed follows him.
+    /// Takes back the last letter: the player walks back. If the letter pushed a box, the box
+    /// follows.
     pub(crate) fn back(&mut self, dir: Dir, pushed: bool)
         requires { (x : Position) × CameBy self.old dir pushed x }
         ensures ground { SameGround self.old self.new }
@@ -120,7 +121,8 @@ impl Scene {
         }
     }
 
-    /// The square beside an open one, and whether a box stands there. None at a wall.
+    /// Returns the square next to an open one, and whether a box stands there. `None` if it is a
+    /// wall or lies in no row.
     fn open_beside(&self, spot: Spot, dir: Dir) -> Option<(Spot, bool)>
         requires { holds is_open self.now spot ≡ true }
         ensures { MatchOption result (NoneBeside self.now spot dir) (IsBeside self.now spot dir) }
@@ -135,7 +137,7 @@ impl Scene {
         }
     }
 
-    /// The player walks to a square.
+    /// Moves the player to a square.
     fn walk(&mut self, to: Spot)
         requires opened { holds is_open self.old to ≡ true }
         requires free { holds is_box self.old to ≡ false }
@@ -147,7 +149,7 @@ impl Scene {
         self.man = to;
     }
 
-    /// A box goes from one square to another, and the player to a third.
+    /// Moves a box from one square to another, and the player to a third.
     fn shift(&mut self, from: Spot, to: Spot, man: Spot)
         requires from_open { holds is_open self.old from ≡ true }
         requires box_there { holds is_box self.old from ≡ true }
@@ -168,7 +170,7 @@ impl Scene {
     }
 }
 
-/// How many boxes stand off goals, after one of them has gone from one square to another.
+/// Returns how many boxes stand off goals after one box has moved from one square to another.
 fn astray_after(astray: usize, left_goal: bool, meets_goal: bool) -> usize
     requires some { (if left_goal then 0 else 1) ≤ astray }
     requires few { astray < 2 ^ 63 }
@@ -184,7 +186,7 @@ fn astray_after(astray: usize, left_goal: bool, meets_goal: bool) -> usize
 impl Occupant {
     ghost use Rattle.sok_rules.specs.Scene.{standing};
 
-    /// The cell that shows it, on floor or on a goal.
+    /// Returns the cell that shows the occupant on floor or on a goal.
     fn on(self, goal: bool) -> Cell
         ensures { result ≡ standing self goal }
     {
@@ -201,7 +203,7 @@ impl Occupant {
 
 ghost use Rattle.sok_rules.specs.Scene.{with_occupant, IsScene};
 
-/// Lets another one stand on a square, and answers whether it is a goal.
+/// Replaces the occupant of a square, and returns whether the square is a goal.
 fn put(cells: &mut Vec<Vec<Cell>>, spot: Spot, who: Occupant) -> bool
     requires { holds is_open (cells_of cells.old.items) spot ≡ true }
     ensures cells { cells_of cells.new.items ≡ with_occupant (cells_of cells.old.items) spot who }
@@ -214,7 +216,7 @@ fn put(cells: &mut Vec<Vec<Cell>>, spot: Spot, who: Occupant) -> bool
     goal
 }
 
-/// Writes cells over others, row by row.
+/// Overwrites `cells` with `rows`, row by row.
 fn copy_over(cells: &mut Vec<Vec<Cell>>, rows: &[Vec<Cell>])
     requires { map (λ row. length row) (cells_of cells.old.items)
         ≡ map (λ row. length row) (cells_of rows.now) }
@@ -225,7 +227,7 @@ fn copy_over(cells: &mut Vec<Vec<Cell>>, rows: &[Vec<Cell>])
     }
 }
 
-/// Where the player of a level stands, and how many boxes stand off goals.
+/// Returns where the player of a level stands, and how many boxes stand off goals.
 fn look_over(rows: &[Vec<Cell>]) -> (Spot, usize)
     requires { IsProper (cells_of rows.now) }
     ensures { IsScene (cells_of rows.now) result.0 result.1 }
@@ -233,7 +235,7 @@ fn look_over(rows: &[Vec<Cell>]) -> (Spot, usize)
     (man_in(rows).unwrap(), census_of(rows).astray)
 }
 
-/// The square of the player.
+/// Returns the square of the player.
 fn man_in(rows: &[Vec<Cell>]) -> Option<Spot>
     requires { IsProper (cells_of rows.now) }
     ensures { IsSomeAnd result (λ man. holds is_man (cells_of rows.now) man ≡ true) }

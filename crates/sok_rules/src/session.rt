@@ -11,15 +11,15 @@ use crate::scene::Scene;
 use std::alloc::Global;
 use std::marker::Model;
 
-/// The most letters that a session plays.
+/// The maximum number of letters that a session plays.
 pub const LIMIT: usize = 1_000_000;
 
-/// A level in play. It is seen as the level's rows, the letters played, and those undone.
+/// A level in play. Contracts see it as the level's rows, the letters played, and those undone.
 #[derive(Drop)]
 pub struct Session {
     level: Level,
     scene: Scene,
-    /// The letters played, and then those undone.
+    /// The letters played, followed by those undone.
     letters: Vec<Dir>,
     /// Which of the letters push.
     pushed: Vec<bool>,
@@ -51,7 +51,7 @@ impl Session {
     ghost use Rattle.sok_rules.specs.Session.{at_start, cell_in_play, position_of};
     ghost use Rattle.sok_rules.specs.Session.{Redoes, StaysAt, StepsOn, Undoes};
 
-    /// A level before any letter.
+    /// Makes a session at the start of a level, before any letter.
     pub fn new(alloc: Global, level: &Level) -> Result<Session, Memory>
         ensures { IfOk result (λ session. session ≡ at_start level.now) }
     {
@@ -65,10 +65,12 @@ impl Session {
         })
     }
 
-    /// Plays a letter, and answers whether it pushed. Refused are, in this order, a letter past
-    /// 1,000,000 and one that is not legal, with the number of letters played so far. A letter that
-    /// is played drops those undone, and a refused one changes nothing. No memory is asked for where
-    /// a letter was undone.
+    /// Plays a letter and returns whether it pushed. The letters that were undone are dropped. An
+    /// error changes nothing.
+    ///
+    /// Errors, in this order: `TooLong` if 1,000,000 letters are played; `Memory`, but not while a
+    /// letter is undone, because there is room for it; `Blocked` with the number of letters played,
+    /// if the letter is not legal.
     pub fn step(&mut self, dir: Dir) -> Result<bool, PlayFault>
         ensures { MatchResult result
             (StepsOn self.old dir self.new) (StaysAt self.old dir self.new) }
@@ -90,7 +92,7 @@ impl Session {
         }
     }
 
-    /// Takes back the last letter played. False, with no change, where none is.
+    /// Takes back the last letter played. If there is none, returns false and changes nothing.
     pub fn undo(&mut self) -> bool
         ensures { MatchBool result
             (Undoes self.old self.new) ((self.old.played ≡ []) × (self.new ≡ self.old)) }
@@ -106,7 +108,8 @@ impl Session {
         true
     }
 
-    /// Plays the first letter undone again. False, with no change, where none is.
+    /// Plays the letter again that was undone last. If there is none, returns false and changes
+    /// nothing.
     pub fn redo(&mut self) -> bool
         ensures { MatchBool result
             (Redoes self.old self.new) ((self.old.undone ≡ []) × (self.new ≡ self.old)) }
@@ -131,28 +134,28 @@ impl Session {
         self.pushes = 0;
     }
 
-    /// Whether all boxes stand on goals now.
+    /// Returns whether all boxes stand on goals now.
     pub fn solved(&self) -> bool
         ensures { IsTrue result ↔ Solves self.now.rows self.now.played }
     {
         self.scene.is_solved()
     }
 
-    /// How many of the letters played push.
+    /// Returns how many of the letters played push.
     pub fn pushes(&self) -> u64
         ensures { result ≡ pushes self.now.rows (start self.now.rows) self.now.played }
     {
         self.pushes
     }
 
-    /// How many letters are played, pushes included.
+    /// Returns how many letters are played, pushes included.
     pub fn moves(&self) -> u64
         ensures { result ≡ length self.now.played }
     {
         self.played as u64
     }
 
-    /// The letters played, in order.
+    /// Returns the letters played, in order.
     pub fn dirs(&self) -> &[Dir]
         ensures letters { result.now ≡ self.now.played }
         ensures legal { IsSome (position_of self.now) }
@@ -160,7 +163,7 @@ impl Session {
         &self.letters[..self.played]
     }
 
-    /// What stands on a square now, and None where no row has the square.
+    /// Returns what stands on a square now. `None` if no row has the square.
     pub fn cell(&self, spot: Spot) -> Option<Cell>
         ensures { IsSomeAnd (position_of self.now)
             (λ x. result ≡ cell_in_play self.now.rows x spot) }
@@ -171,7 +174,8 @@ impl Session {
 
 ghost use Rattle.std.specs.Prelude.{◌∷◌, ◌++◌, ◌<◌, OnErr, take, vec_len, vec_capacity};
 
-/// Makes room for one item behind so many others. Where there are more, it has room already.
+/// Makes room for one item after the first `place` items. If there are more items, there is room
+/// already.
 fn reserve_behind<T>(items: &mut Vec<T>, place: usize) -> Result<(), Memory>
     requires { place ≤ vec_len items.old }
     ensures same { items.new.items ≡ items.old.items }
@@ -184,7 +188,7 @@ fn reserve_behind<T>(items: &mut Vec<T>, place: usize) -> Result<(), Memory>
     Ok(())
 }
 
-/// Drops all behind a place, and puts an item there.
+/// Drops all items after the first `place`, and appends an item.
 fn put_behind<T: Drop>(items: &mut Vec<T>, place: usize, item: T)
     requires within { place ≤ vec_len items.old }
     requires room { place < vec_capacity items.old }

@@ -5,7 +5,7 @@ use Rattle.sok_rules.specs.Session.{Letters, Redoes, StaysAt, StepsOn, Undoes, a
 use Rattle.sok_sketch.specs.declared.acts.Act.{Act}
 use Rattle.sok_sketch.specs.declared.acts.Act.TheVariants.{Play, Undo, Redo, Reset}
 
--- what an act makes of a session, and what is answered
+-- what an act makes of a session, and what it returns
 abbrev pub Acts : Act → Letters → Letters → Result Bool PlayFault → Type 0
 Acts (Play d) old new result = MatchResult result (StepsOn old d new) (StaysAt old d new)
 Acts Undo old new result = IsOkAnd result (λ undone. MatchBool undone (Undoes old new) ((old.played ≡ []) × (new ≡ old)))

@@ -15,8 +15,8 @@ pub enum Act {
     Reset,
 }
 
-/// What a session answers to an act: whether a letter pushes, and whether one was undone or played
-/// again. It always goes back to its start.
+/// Does an act. Returns whether a letter pushes, and for `Undo` and `Redo` whether a letter was
+/// undone or played again. `Reset` always goes back to the start and returns true.
 pub fn answer(session: &mut Session, act: Act) -> Result<bool, PlayFault>
     ensures { Acts act session.old session.new result }
 {

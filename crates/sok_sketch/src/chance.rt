@@ -1,8 +1,9 @@
-//! Numbers by chance, the same in each run.
+//! Pseudo-random numbers, the same in each run.
 
 ghost use Rattle.std.specs.Prelude.{◌<◌};
 
-/// The next of some numbers (the linear congruential generator of Knuth's MMIX), below an end.
+/// Returns the next of some numbers, below `end`, by the linear congruential generator of Knuth's
+/// MMIX.
 pub fn next(state: &mut u64, end: usize) -> usize
     requires { 0 < end }
     ensures { result < end }

@@ -1,22 +1,22 @@
-//! Large rooms, of which one row repeats.
+//! Large rooms, in which one row is repeated.
 
 ghost use Rattle.std.specs.Prelude.{◌≡◌, ◌++◌, IfOk, string_bytes};
 ghost use Rattle.std.specs.List.{repeat};
 
 use std::alloc::{AllocError, Global};
 
-/// Rows, of which one repeats.
+/// The rows of a board, of which one is repeated.
 #[derive(Clone, Copy)]
 pub struct Room {
     pub top: &'static str,
-    /// The row that repeats, and how often.
+    /// The row that is repeated, and how often.
     pub row: &'static str,
     pub times: usize,
     pub bottom: &'static str,
 }
 
 impl Room {
-    /// The text of the board.
+    /// Returns the text of the board.
     pub fn text(&self, alloc: Global) -> Result<String, AllocError>
         ensures { IfOk result (λ text. string_bytes text
             ≡ self.now.top.now ++ (repeat self.now.times self.now.row.now ++ self.now.bottom.now)) }
@@ -46,8 +46,8 @@ pub const ROOM_OF_4097: Room = Room {
     ..ROOM_OF_4096
 };
 
-/// A corridor of 500 squares around a block, in 128 rows and 128 columns: from where the player
-/// stands, to the right of the goal, it is once around to the box.
+/// A corridor of 500 squares around a block, in 128 rows and 128 columns. The player stands to the
+/// right of the goal and has to walk once around to reach the box.
 pub const CORRIDOR_AROUND: Room = Room {
     top: "\
 ################################################################################################################################
@@ -83,7 +83,7 @@ pub const ROOM_OF_129_BOXES: Room = Room {
     bottom: "##################################\n",
 };
 
-/// 32 rows of 32 squares, of which the rows 1 to 4, counted from 0, are goals: 32 to 159.
+/// 32 rows of 32 squares. The rows 1 to 4, counted from 0, are goals: squares 32 to 159.
 pub const ROOM_OF_128_GOALS: Room = Room {
     top: "\
 ##################################

@@ -11,14 +11,14 @@ use sok_board::box_set::BoxSet;
 use std::alloc::Global;
 use std::test::Fail;
 
-/// The board of a drawn level. It fails where there is none, and for want of memory.
+/// Returns the board of a drawn level. Fails if there is none, or for want of memory.
 pub fn board(alloc: Global, text: &str) -> Result<Board, Fail>
     ensures { IfOk result (λ board. level_of text.now ≡ Ok board.rows) }
 {
     Ok(Board::new(alloc, &sketch::level(alloc, text)?)?)
 }
 
-/// The set of some boxes. It fails where they do not rise or are too many, and for want of memory.
+/// Returns the set of some boxes. Fails if they do not rise, are too many, or for want of memory.
 pub fn box_set(alloc: Global, squares: &[Sq]) -> Result<BoxSet, Fail>
     ensures { IfOk result (λ set. set ≡ squares.now) }
 {
@@ -28,7 +28,7 @@ pub fn box_set(alloc: Global, squares: &[Sq]) -> Result<BoxSet, Fail>
     Ok(BoxSet::of(alloc, squares)?)
 }
 
-/// Whether each square is above the one before.
+/// Returns whether each square is greater than the one before.
 fn rises(squares: &[Sq]) -> bool
     ensures { IsTrue result ↔ IsStrictlyIncreasing squares.now }
 {

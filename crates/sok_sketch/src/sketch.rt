@@ -31,7 +31,7 @@ pub const BOX_BEYOND_THE_GOAL: &str = "\
 #####
 ";
 
-/// Each box stands in the other's way.
+/// Each box blocks the other.
 pub const TWO_IN_A_ROW: &str = "\
 #######
 #@$$..#
@@ -57,7 +57,7 @@ pub const CORRIDOR_OF_SIX_PUSHES: &str = "\
 ########
 ";
 
-/// The same with the box one square further, where it parts the corridor from the room.
+/// The same with the box one square further, where it separates the corridor from the room.
 pub const CORRIDOR_WITH_THE_BOX_ON_6: &str = "\
 ########
 ####   #
@@ -66,8 +66,8 @@ pub const CORRIDOR_WITH_THE_BOX_ON_6: &str = "\
 ########
 ";
 
-/// The box on square 10 shuts the player out of the corridor in which the one on 12 stands. The boxes
-/// are on 7, 10 and 12, the goals 13, 14 and 16.
+/// The box on square 10 keeps the player out of the corridor of the box on 12. The boxes are on 7,
+/// 10 and 12, the goals on 13, 14 and 16.
 pub const PAIR_THAT_IS_LOST: &str = "\
 #######
 #     ######
@@ -76,8 +76,8 @@ pub const PAIR_THAT_IS_LOST: &str = "\
 #######
 ";
 
-/// The box on square 6 is pushed to the left, and comes down onto the goal 14 alone: so with boxes on
-/// 14 and 15 the three are lost, though no two of them are. The goals are 14, 15 and 16.
+/// The box on square 6 is pushed to the left, and then reaches no goal but 14. So with boxes on 14
+/// and 15 the three are lost, though no two of them are. The goals are 14, 15 and 16.
 pub const THREE_THAT_ARE_LOST: &str = "\
 #######
 #     #
@@ -87,7 +87,7 @@ pub const THREE_THAT_ARE_LOST: &str = "\
 #######
 ";
 
-/// Both boxes lie at the upper wall, where one goal alone is.
+/// Both boxes are at the upper wall, which has only one goal.
 pub const TWO_BOXES_FOR_ONE_GOAL: &str = "\
 #######
 # $ $.#
@@ -148,7 +148,7 @@ pub const ROOM_BEYOND_THE_GOAL: &str = "\
 ######
 ";
 
-/// A room of two rows that is wider than the way of the box.
+/// A room of two rows that is wider than the path of the box.
 pub const WIDE_ROOM_OF_TWO_ROWS: &str = "\
 ########
 #      #
@@ -282,8 +282,8 @@ pub const THREE_BOXES_IN_THE_OPEN: &str = "\
 ##########
 ";
 
-/// The level of a board, all of whose bytes stand for cells, but for the ends of its lines. Else it
-/// is misdrawn, and the fault is `NoSuchLevel`.
+/// Returns the level of a board. Each byte has to stand for a cell or end a line; otherwise the
+/// fault is `NoSuchLevel`.
 pub fn level(alloc: Global, board: &str) -> Result<Level, LevelFault>
     ensures { (result ≡ Err fault.Memory) ⊎ (result ≡ level_of board.now) }
 {
@@ -297,7 +297,7 @@ pub fn level(alloc: Global, board: &str) -> Result<Level, LevelFault>
     }
 }
 
-/// Whether each byte stands for a cell, or ends a line.
+/// Returns whether each byte stands for a cell or ends a line.
 fn is_drawn(board: &[u8]) -> bool
     ensures { result ≡ is_drawn board.now }
 {

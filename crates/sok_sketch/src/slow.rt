@@ -1,10 +1,10 @@
-//! A reader that gives little, and fails.
+//! A reader that returns one byte per read, and can fail.
 
 use std::io;
 use std::io::Read;
 
-/// Gives its bytes one at each read, and counts the reads. The read of one number, counted from 1,
-/// fails; with 0 none does.
+/// Returns one byte at each read, and counts the reads. The read with the number `fails_at`,
+/// counted from 1, fails; with 0 none does.
 #[derive(Drop)]
 pub struct Slow<'a> {
     pub bytes: &'a [u8],

@@ -4,7 +4,7 @@
 /// A command line, what it writes to the output, and to the error stream, and its status.
 pub type Row = (&'static str, &'static str, &'static str, u8);
 
-/// The files that are typed first, and what is typed into each.
+/// The files that are typed first, with their texts.
 pub const FILES: [(&str, &str); 2] = [("small.xsb", LEVELS), ("small.lurd", LETTERS)];
 
 /// A level that takes two pushes, and one without a solution.
@@ -27,7 +27,7 @@ const LETTERS: &str = "\
 2 r
 ";
 
-/// The commands behind them, in their order.
+/// The commands that follow, in order.
 pub const SESSION: [Row; 22] = [
     (
         "sok list small.xsb",

@@ -1,4 +1,4 @@
--- What a fault of the solver becomes.
+-- How a fault of the solver is passed on.
 use Rattle.sok_search.specs.declared.fault.SolveFault.{SolveFault}
 use Rattle.sok_search.specs.declared.fault.SolveFault.TheVariants as solve
 use Rattle.sok_engine.specs.Faults.{of_board}

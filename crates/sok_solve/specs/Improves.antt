@@ -1,4 +1,4 @@
--- What is answered to a level that is to be solved with fewer pushes than a solution has, within a limit of states, alone or with a certificate.
+-- The answers to a level that is to be solved, within a limit of states, with fewer pushes than a known solution; with a certificate or without.
 use Rattle.std.specs.Prelude.{ℕ, ◌≡◌, ◌<◌, ◌++◌, Bool, true, false, List, Some, codes, min}
 use Rattle.std.specs.Fmt.{decimal}
 use Rattle.sok_rules.specs.declared.cell.Dir.{Dir}
@@ -14,20 +14,20 @@ use Rattle.sok_engine.specs.Inputs.{OnLevel}
 use Rattle.sok_engine.specs.Written.{Answer, Answers}
 use Rattle.sok_solve.specs.Solves.{Becomes, BecomesWithin, IsAnswered, bound_answer, certified_bound, certified_solution, limit_answer, solution_answer, uncertified_limit}
 
--- so many pushes, and no more than a certificate can claim
+-- this many pushes, but no more than a certificate can claim
 abbrev pub up_to_claim : ℕ → ℕ
 up_to_claim best = min best number_limit
 
--- none solves with fewer pushes
+-- no solution has fewer pushes
 abbrev pub at_least_answer : ℕ → Answer
 at_least_answer best = record { text = codes "at least " ++ decimal best ++ codes "\n"; status = 0 }
 
--- with the certificate that none does
+-- the same, with a certificate
 abbrev pub certified_at_least : ℕ → List Entry → Certified
 certified_at_least best entries = record { cert = text_of (claim.Pushes best) entries; answer = at_least_answer best }
 
--- What is told without a certificate: a list that solves with the fewest pushes, which are fewer than the solution has; or that none solves with fewer; or that
--- there are too many states, and where a bound is asked for, how many pushes are needed at least, which are fewer, too.
+-- The answer without a certificate. It is a solution with the fewest pushes, which are fewer than the known one has; or no solution has fewer; or there are too
+-- many states, and if a bound is wanted, a lower bound is reported, which is less, too.
 pub data TellsImproved (limit best : ℕ) (bound : Bool) (rows : Rows) (told : Answer) : Type 0 where
   has_fewer : (w : List Dir) (pushes : ℕ) → IsLeastSolution rows w pushes → pushes < best → told ≡ solution_answer rows w pushes
       → TellsImproved limit best bound rows told
@@ -37,7 +37,7 @@ pub data TellsImproved (limit best : ℕ) (bound : Bool) (rows : Rows) (told : A
   meets_limit_with_bound : (least : ℕ) → IsCutShortBeside rows limit (Some best) limit least → least < best → bound ≡ true → told ≡ bound_answer limit least
       → TellsImproved limit best bound rows told
 
--- the same, each but a limit alone with a closed certificate
+-- the same, each with a closed certificate except a limit without a bound
 pub data TellsImprovement (limit best : ℕ) (bound : Bool) (rows : Rows) (told : Certified) : Type 0 where
   proves_fewer : (w : List Dir) (pushes : ℕ) (entries : List Entry) → IsProvedSolved rows limit w pushes entries → pushes < best
       → told ≡ certified_solution rows w pushes entries → TellsImprovement limit best bound rows told
@@ -49,7 +49,7 @@ pub data TellsImprovement (limit best : ℕ) (bound : Bool) (rows : Rows) (told 
       → Certifies rows limit (claim.Pushes least) entries → bound ≡ true → told ≡ certified_bound limit least entries
       → TellsImprovement limit best bound rows told
 
--- alone, and with a certificate
+-- without a certificate, and with one
 abbrev pub IsImproveAnswer : ℕ → ℕ → Bool → Rows → Answers
 IsImproveAnswer limit best bound rows = IsAnswered (TellsImproved limit best bound rows) Becomes limit rows
 

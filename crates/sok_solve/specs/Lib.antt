@@ -1,7 +1,7 @@
--- Words of public contracts: what is answered to a level that is to be solved, and the certificate that goes with it (Solves); the same beside a solution that
--- is known (Improves).
+-- Definitions that public contracts use: the answers to a level that is to be solved, with their certificates (Solves); the same if a solution is known
+-- (Improves).
 pub mod Improves
 pub mod Solves
--- words of the crate's own contracts
+-- definitions that the crate's own contracts use
 pub mod Faults
 pub mod Lines

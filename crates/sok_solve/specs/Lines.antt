@@ -17,12 +17,12 @@ text_of_entries entries = flat_map ended (flat_map entry_lines entries)
 abbrev pub AreLong : List ℕ → List ℕ → Type 0
 AreLong lines text = (cert_limit < length lines) × (cert_limit < length text)
 
--- the lines of these entries were kept, or a front that is too long
+-- the lines of these entries were kept, or the kept lines and the lines of these entries are both too long
 pub record HasLines (taken : EntryLines) (entries : List Entry) : Type 0 where
   pub patterns : taken.has_pattern ≡ list_any (λ (e : Entry). is_pattern e.reason) entries
   pub lines : (taken.lines.items ≡ text_of_entries entries) ⊎ AreLong taken.lines.items (text_of_entries entries)
 
--- a text that is to be written, that of the entries that were taken, and is not too long; or memory was refused, or it is too long
+-- a text to write, which is that of the taken entries and is not too long; or memory was refused, or the text is too long
 abbrev pub TellsReady : Claim → (List Entry → Type 0) → Result (List ℕ) ToolFault → Type 0
 TellsReady claim Took (Ok ready) = (entries : List Entry) → Took entries → (ready ≡ text_of claim entries) × (length ready ≤ cert_limit)
 TellsReady claim Took (Err fault) =

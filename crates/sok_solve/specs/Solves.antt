@@ -1,5 +1,5 @@
--- What is answered to a level that is to be solved within a limit of states, alone or with a certificate, and where the limit is met, with what the search
--- shows till then or without.
+-- The answers to a level that is to be solved within a limit of states, with a certificate or without. If the limit is exceeded, the answer may have the lower
+-- bound that the search shows, or not.
 use Rattle.std.specs.Prelude.{ℕ, ◌≡◌, ◌≢◌, Bool, true, false, List, [], ◌++◌, ◌≤◌, ◌<◌, ◌⊎◌, Some, None, Result, Ok, Err, codes, length}
 use Rattle.std.specs.Fmt.{decimal}
 use Rattle.sok_rules.specs.declared.cell.Dir.{Dir}
@@ -28,7 +28,7 @@ abbrev pub solution_text : Rows → List Dir → ℕ → List ℕ
 solution_text rows w pushes =
     codes "solved " ++ decimal pushes ++ codes " " ++ decimal (length w) ++ codes "\n" ++ marked_text rows (start rows) w ++ codes "\n"
 
--- the answers, alone
+-- the answers, without a certificate
 abbrev pub solution_answer : Rows → List Dir → ℕ → Answer
 solution_answer rows w pushes = record { text = solution_text rows w pushes; status = 0 }
 
@@ -38,12 +38,12 @@ unsolvable_answer = record { text = codes "unsolvable\n"; status = 0 }
 abbrev pub limit_answer : ℕ → Answer
 limit_answer limit = record { text = codes "limit " ++ decimal limit ++ codes "\n"; status = 4 }
 
--- and the fewest pushes that the search shows
+-- the limit, and the lower bound that the search shows
 abbrev pub bound_answer : ℕ → ℕ → Answer
 bound_answer limit least = record { text = codes "limit " ++ decimal limit ++ codes " at least " ++ decimal least ++ codes "\n"; status = 4 }
 
--- what is told without a certificate, after a search within the limit: a list that solves with the fewest pushes, or that none solves; or that there are
--- too many states, and where a bound is asked for, that none solves with fewer pushes
+-- The answer without a certificate, after a search within the limit. It is a solution with the fewest pushes, or there is none; or there are too many states,
+-- and if a bound is wanted, a lower bound is reported.
 pub data TellsFound (limit : ℕ) (bound : Bool) (rows : Rows) (told : Answer) : Type 0 where
   is_solution : (w : List Dir) (pushes : ℕ) → IsLeastSolution rows w pushes → HasSearched rows limit (Some pushes)
       → told ≡ solution_answer rows w pushes → TellsFound limit bound rows told
@@ -51,11 +51,11 @@ pub data TellsFound (limit : ℕ) (bound : Bool) (rows : Rows) (told : Answer) :
   is_past_limit : (least : ℕ) → IsCutShort rows limit limit least → bound ≡ false → told ≡ limit_answer limit → TellsFound limit bound rows told
   has_bound : (least : ℕ) → IsCutShort rows limit limit least → bound ≡ true → told ≡ bound_answer limit least → TellsFound limit bound rows told
 
--- with the certificate that none solves with fewer pushes
+-- with a certificate that no solution has fewer pushes
 abbrev pub certified_solution : Rows → List Dir → ℕ → List Entry → Certified
 certified_solution rows w pushes entries = record { cert = text_of (claim.Pushes pushes) entries; answer = solution_answer rows w pushes }
 
--- with the certificate that none solves
+-- with a certificate that there is no solution
 abbrev pub certified_unsolvable : List Entry → Certified
 certified_unsolvable entries = record { cert = text_of claim.Unsolvable entries; answer = unsolvable_answer }
 
@@ -63,12 +63,12 @@ certified_unsolvable entries = record { cert = text_of claim.Unsolvable entries;
 abbrev pub uncertified_limit : ℕ → Certified
 uncertified_limit limit = record { cert = []; answer = limit_answer limit }
 
--- with the certificate that none solves with fewer pushes than the search shows
+-- with a certificate of the lower bound that the search shows
 abbrev pub certified_bound : ℕ → ℕ → List Entry → Certified
 certified_bound limit least entries = record { cert = text_of (claim.Pushes least) entries; answer = bound_answer limit least }
 
--- what is told: a list that solves with the fewest pushes, or that none solves, each with a closed certificate; or that there are too many states, and where a
--- bound is asked for, that none solves with fewer pushes, with a closed certificate too
+-- The answer. It is a solution with the fewest pushes, or there is none, each with a closed certificate; or there are too many states, and if a bound is
+-- wanted, a lower bound is reported, with a closed certificate, too.
 pub data TellsOutcome (limit : ℕ) (bound : Bool) (rows : Rows) (told : Certified) : Type 0 where
   is_solved : (w : List Dir) (pushes : ℕ) (entries : List Entry) → IsProvedSolved rows limit w pushes entries
       → told ≡ certified_solution rows w pushes entries → TellsOutcome limit bound rows told
@@ -77,27 +77,27 @@ pub data TellsOutcome (limit : ℕ) (bound : Bool) (rows : Rows) (told : Certifi
   is_bounded : (least : ℕ) (entries : List Entry) → IsCutShort rows limit limit least → Certifies rows limit (claim.Pushes least) entries → bound ≡ true
       → told ≡ certified_bound limit least entries → TellsOutcome limit bound rows told
 
--- something is told, and its certificate is not too long; or memory was refused, or it is too long
+-- an answer, whose certificate is not too long; or memory was refused, or the certificate is too long
 abbrev pub TellsWithin : (Certified → Type 0) → Result Certified ToolFault → Type 0
 TellsWithin Tells (Ok told) = Tells told × (length told.cert ≤ cert_limit)
 TellsWithin Tells (Err fault) = (fault ≡ tool.Memory) ⊎ ((fault ≡ tool.TooMuch) × ((told : Certified) × Tells told × (cert_limit < length told.cert)))
 
--- what is told becomes the answer
+-- what was found becomes the answer
 abbrev pub Becomes : {A : Type 0} → A → AnswersOf A
 Becomes told answer = answer ≡ Ok told
 
--- it does, unless its certificate has more bytes than one may have
+-- the same, unless its certificate has more bytes than one may have
 abbrev pub BecomesWithin : Certified → CertifiedAnswers
 BecomesWithin told = Within cert_limit (λ bytes. Becomes told) told.cert
 
--- the limit is refused, or else the level, or else something is told of it, which becomes the answer
+-- the limit is refused; otherwise the level is refused; otherwise something is found of it, which becomes the answer
 pub data IsAnswered {A : Type 0} (Tells : A → Type 0) (Becoming : A → AnswersOf A) (limit : ℕ) (rows : Rows) (answer : Result A ToolFault) : Type 0 where
   is_bad : IsBadLimit limit → answer ≡ Err tool.BadLimit → IsAnswered Tells Becoming limit rows answer
   is_refused : ¬ (IsBadLimit limit) → (fault : BoardFault) → fault ≢ board.Memory → IsRefused rows fault → answer ≡ Err (of_board fault)
       → IsAnswered Tells Becoming limit rows answer
   is_told : ¬ (IsBadLimit limit) → IsAcceptable rows → (told : A) → Tells told → Becoming told answer → IsAnswered Tells Becoming limit rows answer
 
--- with a certificate, and alone
+-- with a certificate, and without one
 abbrev pub IsSolveAnswer : ℕ → Bool → Rows → CertifiedAnswers
 IsSolveAnswer limit bound rows = IsAnswered (TellsOutcome limit bound rows) BecomesWithin limit rows
 
@@ -108,6 +108,6 @@ IsFindAnswer limit bound rows = IsAnswered (TellsFound limit bound rows) Becomes
 abbrev pub IsSolve : ℕ → ℕ → Bool → List ℕ → CertifiedAnswers
 IsSolve n limit bound bytes = OnLevel (IsSolveAnswer limit bound) (level_at (blocks_of bytes) n)
 
--- the same, alone
+-- the same, without a certificate
 abbrev pub IsFind : ℕ → ℕ → Bool → List ℕ → Answers
 IsFind n limit bound bytes = OnLevel (IsFindAnswer limit bound) (level_at (blocks_of bytes) n)

@@ -19,8 +19,8 @@ use std::alloc::{AllocError, Global};
 use std::io::Write;
 use std::marker::Model;
 
-/// The lines of the entries that were taken, and whether one of them is a pattern. Once they have
-/// more bytes than a certificate that is read, no more are kept.
+/// The lines of the entries that were taken, and whether one of them is a pattern. Once the lines
+/// are longer than a certificate may be, no more are kept.
 #[derive(Drop)]
 pub struct EntryLines {
     lines: Vec<u8>,
@@ -28,7 +28,7 @@ pub struct EntryLines {
 }
 
 impl EntryLines {
-    /// Of no entries.
+    /// Returns the lines of no entries.
     pub fn new(alloc: Global) -> EntryLines
         ensures { HasLines result [] }
     {
@@ -38,7 +38,7 @@ impl EntryLines {
         }
     }
 
-    /// Keeps the lines of one more entry, the last.
+    /// Appends the lines of the next entry.
     fn push(
         &mut self,
         depth: u32,
@@ -72,8 +72,8 @@ impl Entries for EntryLines {
     }
 }
 
-/// A certificate, as it is written: the lines in front of its entries, and all others. It is seen as
-/// its text.
+/// A certificate, ready to be written: the lines before its entries, and all others. Contracts see
+/// it as its text.
 #[derive(Drop)]
 pub struct ReadyCert {
     front: Vec<u8>,
@@ -89,7 +89,7 @@ impl Model for ReadyCert {
 }
 
 impl ReadyCert {
-    /// The text is refused with `TooMuch` where it is longer than one that is read.
+    /// Makes the text of a certificate. `TooMuch` if it is longer than a certificate may be.
     pub fn new(alloc: Global, claim: &Claim, taken: EntryLines) -> Result<ReadyCert, ToolFault>
         ensures { TellsReady claim.now (HasLines taken) result }
     {
@@ -111,7 +111,7 @@ impl ReadyCert {
         Ok(ReadyCert { front, lines })
     }
 
-    /// Whether these bytes are its text.
+    /// Returns whether these bytes are its text.
     pub fn is(&self, bytes: &[u8]) -> bool
         ensures { IsTrue result → bytes.now ≡ self.now }
     {
@@ -121,7 +121,7 @@ impl ReadyCert {
         }
     }
 
-    /// Writes the text. Where a write fails, a front of it is written.
+    /// Writes the text. If a write fails, only a first part of it is written.
     pub fn write<W: Write>(&self, out: &mut W) -> Result<(), WriteFailed>
         ensures ok { OnOk result (Appends (W.contents out.old) (W.contents out.new) self.now) }
         ensures err { OnErr result

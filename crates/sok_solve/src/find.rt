@@ -1,4 +1,4 @@
-//! A solution with the fewest pushes, alone.
+//! A solution with the fewest pushes, without a certificate.
 
 ghost use Rattle.std.specs.Prelude.{◌≡◌, MatchResult};
 ghost use Rattle.sok_engine.specs.Inputs.{OfReader, Within};
@@ -19,10 +19,9 @@ use sok_text::collection::Collection;
 use std::alloc::Global;
 use std::io::{Read, Write};
 
-/// Solves the n-th level of a collection as `solve_bytes` does, with the same lines and faults, but
-/// makes no certificate, which takes time and most of the memory. A limit at which `solve_bytes`
-/// tells that more states can be reached may suffice here, and the bound that is told of a limit may
-/// be another one.
+/// Like `solve_bytes`, with the same lines and faults, but without a certificate, which takes time
+/// and most of the memory. It may succeed within a limit that `solve_bytes` exceeds, and the bound
+/// that it reports at a limit may be another one.
 pub fn find_bytes<R: Read, W: Write>(
     alloc: Global,
     input: &mut R,
@@ -39,7 +38,7 @@ pub fn find_bytes<R: Read, W: Write>(
     answer.write(out)
 }
 
-/// The answer to a level of a collection.
+/// Returns the answer to a level of a collection.
 fn found(
     alloc: Global,
     collection: &[u8],
@@ -53,7 +52,7 @@ fn found(
     answer(alloc, &level, limit, bound)
 }
 
-/// The answer to a level.
+/// Returns the answer to a level.
 fn answer(alloc: Global, level: &Level, limit: u32, bound: bool) -> Result<Answer, ToolFault>
     ensures { Gives (IsFindAnswer limit bound level.now) result }
 {
@@ -63,7 +62,7 @@ fn answer(alloc: Global, level: &Level, limit: u32, bound: bool) -> Result<Answe
     }
 }
 
-/// What is told of what is found.
+/// Returns the answer that reports what was found.
 fn told(
     alloc: Global,
     level: &Level,

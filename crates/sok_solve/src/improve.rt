@@ -1,4 +1,4 @@
-//! A solution with fewer pushes than one that is known, alone.
+//! A solution with fewer pushes than a known one, without a certificate.
 
 ghost use Rattle.std.specs.Prelude.{◌≡◌, IfOk, MatchResult};
 ghost use Rattle.sok_engine.specs.Inputs.{OfReader, Within};
@@ -20,10 +20,10 @@ use sok_text::collection::Collection;
 use std::alloc::{AllocError, Global};
 use std::io::{Read, Write};
 
-/// Solves the n-th level of a collection with fewer pushes than `best`, as `find_bytes` does it, with
-/// the same lines and faults: the solution has the fewest pushes. Where no letters solve the level
-/// with fewer than `best`, the line is `at least BEST`, at status 0, and of an unsolvable level that
-/// is true, too. A `best` above 1,000,000, which no certificate can claim, is taken for that.
+/// Solves the n-th level of a collection with fewer pushes than `best`. The lines and faults are
+/// those of `find_bytes`, and a solution has the fewest pushes. If no solution has fewer than
+/// `best`, the line is `at least BEST`, with status 0; that is true of an unsolvable level, too. A
+/// `best` above 1,000,000, which no certificate can claim, counts as 1,000,000.
 pub fn improve_bytes<R: Read, W: Write>(
     alloc: Global,
     input: &mut R,
@@ -41,7 +41,7 @@ pub fn improve_bytes<R: Read, W: Write>(
     improve_within(alloc, input, n, limit, best, bound, out)
 }
 
-/// The same for pushes that a certificate can claim.
+/// Does so for a `best` that a certificate can claim.
 fn improve_within<R: Read, W: Write>(
     alloc: Global,
     input: &mut R,
@@ -59,7 +59,7 @@ fn improve_within<R: Read, W: Write>(
     answer.write(out)
 }
 
-/// The answer to a level of a collection.
+/// Returns the answer to a level of a collection.
 fn improved(
     alloc: Global,
     collection: &[u8],
@@ -74,7 +74,7 @@ fn improved(
     answer(alloc, &level, limit, best, bound)
 }
 
-/// The answer to a level.
+/// Returns the answer to a level.
 fn answer(
     alloc: Global,
     level: &Level,
@@ -90,7 +90,7 @@ fn answer(
     }
 }
 
-/// What is told of what is found.
+/// Returns the answer that reports what was found.
 fn told(
     alloc: Global,
     level: &Level,
@@ -123,7 +123,7 @@ fn told(
     }
 }
 
-/// The line of a level that no letters solve with fewer pushes.
+/// Returns the line which says that no solution has fewer pushes.
 pub(crate) fn at_least_text(alloc: Global, best: u32) -> Result<Vec<u8>, AllocError>
     ensures { IfOk result (λ text. text.items ≡ (at_least_answer best).text) }
 {

@@ -1,4 +1,4 @@
-//! A solution with fewer pushes than one that is known, with a certificate.
+//! A solution with fewer pushes than a known one, with a certificate.
 
 ghost use Rattle.std.specs.Prelude.{◌≤◌};
 ghost use Rattle.sok_cert.specs.Text.{number_limit};
@@ -26,10 +26,9 @@ use sok_text::collection::Collection;
 use std::alloc::Global;
 use std::io::{Read, Write};
 
-/// Solves the n-th level of a collection with fewer pushes than `best` as `improve_bytes` does it, with
-/// the same lines. Before each of them but `limit S` alone the
-/// certificate of it is written to `cert_out`, as `solve_bytes` does it, with the same faults: of
-/// `at least BEST` it is one for `pushes BEST`.
+/// Like `improve_bytes`, with the same lines, but a certificate of each line except `limit S` is
+/// written to `cert_out` before it, as by `solve_bytes` and with the same faults. The certificate
+/// of `at least BEST` is one for `pushes BEST`.
 pub fn improve_certified_bytes<R: Read, W: Write, C: Write>(
     alloc: Global,
     input: &mut R,
@@ -49,7 +48,7 @@ pub fn improve_certified_bytes<R: Read, W: Write, C: Write>(
     improve_within(alloc, input, n, limit, best, bound, out, cert_out)
 }
 
-/// The same for pushes that a certificate can claim.
+/// Does so for a `best` that a certificate can claim.
 fn improve_within<R: Read, W: Write, C: Write>(
     alloc: Global,
     input: &mut R,
@@ -71,7 +70,7 @@ fn improve_within<R: Read, W: Write, C: Write>(
     told.write(cert_out, out)
 }
 
-/// The answer to a level of a collection.
+/// Returns the answer to a level of a collection.
 fn improved(
     alloc: Global,
     collection: &[u8],
@@ -87,7 +86,7 @@ fn improved(
     answer(alloc, &level, limit, best, bound)
 }
 
-/// The answer to a level.
+/// Returns the answer to a level.
 fn answer(
     alloc: Global,
     level: &Level,
@@ -105,7 +104,7 @@ fn answer(
     }
 }
 
-/// What is told of what was found, with the certificate whose entries were taken.
+/// Returns the answer that reports what was found, with the certificate of the taken entries.
 fn told(
     alloc: Global,
     level: &Level,

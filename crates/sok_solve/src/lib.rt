@@ -3,10 +3,10 @@
 //! | Module | What it holds |
 //! |---|---|
 //! | `certificate` | the text of a certificate, made as its entries are found |
-//! | `find` | the solution with the fewest pushes, alone |
-//! | `improve` | a solution with fewer pushes than one that is known, alone |
+//! | `find` | a solution with the fewest pushes, without a certificate |
+//! | `improve` | a solution with fewer pushes than a known one, without a certificate |
 //! | `improve_certified` | the same, with a certificate |
-//! | `solve` | the solution with the fewest pushes, and its certificate |
+//! | `solve` | a solution with the fewest pushes, with a certificate |
 #![tactic(auto)]
 
 pub mod certificate;

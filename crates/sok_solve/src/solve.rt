@@ -1,4 +1,4 @@
-//! A solution with the fewest pushes, with its certificate.
+//! A solution with the fewest pushes, with a certificate.
 
 ghost use Rattle.std.specs.Prelude.{◌≡◌, IfOk, MatchResult, Ok};
 ghost use Rattle.sok_engine.specs.Certified.{WritesBoth};
@@ -29,20 +29,20 @@ use std::alloc::{AllocError, Global};
 use std::io::{Read, Write};
 use std::marker::Model;
 
-/// Solves the n-th level of a collection, counted from 1, within a limit of states from 1 to
-/// 1,000,000. Written is `solved PUSHES MOVES` and on a line of its own the text of a solution,
-/// upper case where it pushes; then no text of letters solves the level with fewer pushes. Or it is
-/// `unsolvable`; then none solves it. Before either its certificate is written to `cert_out`. Or it
-/// is `limit S`, at status 4, where more states than the limit can be reached; then there is no
-/// certificate. Where a bound is asked for, it is `limit S at least K` in its place, with a
-/// certificate: no text of letters solves the level with fewer than K pushes.
+/// Solves the n-th level of a collection, counted from 1, within a limit of 1 to 1,000,000 states.
+/// Writes one of these answers:
 ///
-/// Where there is no such answer nothing is written, and the fault is the first of these:
-/// `ReadFailed` or `TooMuch`; `NoSuchLevel` or another fault of the level; `BadLimit`; one of its
-/// board; `TooMuch`, where the certificate would have more bytes than one that is read. A write that
-/// fails is `WriteFailed` at once: after a front of the certificate, with nothing of the answer; or
-/// after the certificate and a front of the answer. Of a reader that does not tell which bytes it
-/// holds, this is promised of some bytes.
+/// - `solved PUSHES MOVES` and, on a line of its own, a solution with the fewest pushes, in upper
+///   case where it pushes; its certificate is written to `cert_out` before;
+/// - `unsolvable`, if there is no solution; its certificate is written to `cert_out` before;
+/// - `limit S`, with status 4, if more states than the limit can be reached; or, if `bound` is set,
+///   `limit S at least K` with a certificate that no solution has fewer than K pushes.
+///
+/// Errors, in this order, with nothing written: `ReadFailed` or `TooMuch`; `NoSuchLevel` or another
+/// fault of the level; `BadLimit`; a fault of its board; `TooMuch` if the certificate would be
+/// longer than one may be. `WriteFailed` as soon as a write fails: after a first part of the
+/// certificate and nothing of the answer, or after the certificate and a first part of the answer.
+/// For a reader whose remaining bytes are unknown, this is promised for some bytes.
 pub fn solve_bytes<R: Read, W: Write, C: Write>(
     alloc: Global,
     input: &mut R,
@@ -62,7 +62,7 @@ pub fn solve_bytes<R: Read, W: Write, C: Write>(
     told.write(cert_out, out)
 }
 
-/// An answer, and the certificate that is written before it, where there is one.
+/// An answer, and the certificate that is written before it, if there is one.
 #[derive(Drop)]
 pub(crate) struct CertifiedAnswer {
     pub(crate) cert: Option<ReadyCert>,
@@ -79,9 +79,11 @@ impl Model for CertifiedAnswer {
 }
 
 impl CertifiedAnswer {
-    /// Writes the certificate, and then the text of the answer, and gives the answer's status. A
-    /// write that fails is `WriteFailed` at once: after a front of the certificate nothing of the
-    /// answer is written.
+    /// Writes the certificate and then the text of the answer, and returns the status of the
+    /// answer.
+    ///
+    /// Errors: `WriteFailed` as soon as a write fails. After a first part of the certificate,
+    /// nothing of the answer is written.
     pub(crate) fn write<C: Write, W: Write>(
         self,
         cert_out: &mut C,
@@ -99,7 +101,7 @@ impl CertifiedAnswer {
     }
 }
 
-/// The answer to a level of a collection.
+/// Returns the answer to a level of a collection.
 fn solved(
     alloc: Global,
     collection: &[u8],
@@ -113,7 +115,7 @@ fn solved(
     answer(alloc, &level, limit, bound)
 }
 
-/// The answer to a level.
+/// Returns the answer to a level.
 fn answer(
     alloc: Global,
     level: &Level,
@@ -139,7 +141,7 @@ pub(crate) fn tool_fault(fault: SolveFault) -> ToolFault
     }
 }
 
-/// What is told of what was found, with the certificate whose entries were taken.
+/// Returns the answer that reports what was found, with the certificate of the taken entries.
 fn told(
     alloc: Global,
     level: &Level,
@@ -187,7 +189,7 @@ fn told(
     }
 }
 
-/// The line of a limit that is met.
+/// Returns the line for a limit that was exceeded.
 pub(crate) fn limit_text(alloc: Global, states: u32) -> Result<Vec<u8>, AllocError>
     ensures { IfOk result (λ text. text.items ≡ (limit_answer states).text) }
 {
@@ -195,7 +197,7 @@ pub(crate) fn limit_text(alloc: Global, states: u32) -> Result<Vec<u8>, AllocErr
     Ok(line.into_bytes())
 }
 
-/// The same, with the fewest pushes that the search shows.
+/// Returns the same line with the lower bound that the search shows.
 pub(crate) fn bound_text(alloc: Global, states: u32, at_least: u32) -> Result<Vec<u8>, AllocError>
     ensures { IfOk result (λ text. text.items ≡ (bound_answer states at_least).text) }
 {
@@ -203,7 +205,7 @@ pub(crate) fn bound_text(alloc: Global, states: u32, at_least: u32) -> Result<Ve
     Ok(line.into_bytes())
 }
 
-/// The line of a solution, and its marked text on a line of its own.
+/// Returns the line of a solution, and its marked text on a line of its own.
 pub(crate) fn solution_text(
     alloc: Global,
     level: &Level,

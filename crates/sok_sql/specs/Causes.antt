@@ -1,4 +1,4 @@
--- Why a statement over the table of levels is refused.
+-- Why a statement on the table of levels fails.
 use Rattle.std.specs.Prelude.{◌≡◌, ◌⊎◌, ℕ, List, Some, false, slice_get, IsSome, IsTrue}
 use Rattle.sqlite_disk.specs.Disk.{MoreFaults}
 use Rattle.sqlite.specs.declared.error.ErrorCode.TheVariants as code
@@ -17,7 +17,7 @@ HasTable s = IsTrue s.is_open → s.now.schema ≡ level_schema
 abbrev pub IsEmpty : State → Type 0
 IsEmpty s = IsTrue s.is_open → s.now.schema ≡ no_schema
 
--- the connection was shut before, its statements may take only so many steps, or the store has failed since
+-- the connection was shut before, the number of steps of its statements is limited, or the store has failed since
 abbrev pub HasCause : State → State → Type 0
 HasCause old new = (old.is_open ≡ false) ⊎ (IsSome old.step_limit ⊎ MoreFaults old.faults new.faults)
 
@@ -28,14 +28,14 @@ IsMemory e = e ≡ SqliteFailure code.OutOfMemory
 abbrev pub IsMissing : Error → Type 0
 IsMissing e = e ≡ SqlInputError NoSuchTable
 
--- memory was refused, or there is such a cause
+-- memory was refused, or there is one of the causes above
 abbrev pub IsExcused : State → State → Error → Type 0
 IsExcused old new e = IsMemory e ⊎ HasCause old new
 
--- the row of this leaf, or its entry in the index, is too big to be stored
+-- the row with these values, or its entry in the index, is too big to be stored
 abbrev pub IsTooBig : ℕ → Leaf → Type 0
 IsTooBig id leaf = IsOversized level_schema level (stored id leaf)
 
--- no text stands there twice
+-- no text occurs twice
 abbrev pub AreApart : List Leaf → Type 0
 AreApart leaves = (m n : ℕ) (leaf other : Leaf) → slice_get leaves m ≡ Some leaf → slice_get leaves n ≡ Some other → leaf.text ≡ other.text → m ≡ n

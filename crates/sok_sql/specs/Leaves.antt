@@ -1,4 +1,4 @@
--- The table of levels: its columns, and what its rows hold.
+-- The table of levels: its columns, and the values of its rows.
 use Rattle.std.specs.Prelude.{ℕ, suc, ◌+◌, pos, Bool, true, false, List, [], ◌∷◌, codes, Option, Some, None, map}
 use Rattle.std.specs.Prelude.{length, if◌then◌else◌, bytes_eq}
 use Rattle.std.specs.List.Sorted.{IsPermutation, IsSorted}
@@ -48,7 +48,7 @@ level_schema = record { tables = level ∷ []; indexes = level_key ∷ []; views
 abbrev pub no_schema : Schema
 no_schema = record { tables = []; indexes = []; views = [] }
 
--- what a row of the table holds beside its id
+-- the values of a row of the table, besides its id
 pub record Leaf : Type 0 where
   pub text : List ℕ
   pub title : Option (List ℕ)
@@ -57,24 +57,24 @@ pub record Leaf : Type 0 where
   pub moves : Option ℕ
   pub verdict : ℕ
 
--- of a level that is new in the table
+-- the values for a level that is new in the table
 abbrev pub new_leaf : List ℕ → Option (List ℕ) → Leaf
 new_leaf text title = record { text = text; title = title; lurd = None; pushes = None; moves = None; verdict = 0 }
 
--- with other letters that solve, so many of which push, and no verdict yet
+-- the values with this best solution and no verdict yet
 abbrev pub leaf_with_best : List ℕ → ℕ → ℕ → Leaf → Leaf
 leaf_with_best lurd pushes moves leaf = record leaf { lurd = Some lurd; pushes = Some pushes; moves = Some moves; verdict = 0 }
 
 abbrev pub leaf_with_verdict : ℕ → Leaf → Leaf
 leaf_with_verdict verdict leaf = record leaf { verdict = verdict }
 
--- its values in the order of the columns
+-- the values in the order of the columns
 abbrev pub values : Leaf → Row
 values leaf =
     Words leaf.text ∷ or_null Bytes leaf.title ∷ or_null Words leaf.lurd ∷ or_null (λ n. Int (pos n)) leaf.pushes
     ∷ or_null (λ n. Int (pos n)) leaf.moves ∷ Int (pos leaf.verdict) ∷ []
 
--- the row as it is written: the column of the id is NULL there, and the id stands in front
+-- the row as it is stored: the id comes first, and the column of the id is NULL
 abbrev pub stored : ℕ → Leaf → Row
 stored id leaf = Int (pos id) ∷ Null ∷ values leaf
 
@@ -87,12 +87,12 @@ seen row =
 abbrev pub shown : ℕ → Leaf → Row
 shown id leaf = Int (pos id) ∷ values leaf
 
--- of these rows, whose ids count on from this one
+-- these rows, whose ids count from this one
 abbrev pub shown_from : ℕ → List Leaf → List Row
 shown_from id [] = []
 shown_from id (leaf ∷ more) = shown id leaf ∷ shown_from (id + 1) more
 
--- the rows of the table are exactly these, in some order, with the ids 1, 2, 3 and on
+-- the table has exactly these rows, in some order, with the ids 1, 2, 3 and so on
 abbrev pub HasLeaves : Trees → List Leaf → Type 0
 HasLeaves db leaves = IsPermutation (map seen (db 0)) (shown_from 1 leaves)
 
@@ -101,12 +101,12 @@ pub record ListsTable (table rows : List Row) : Type 0 where
   pub same : IsPermutation (map seen table) rows
   pub sorted : IsSorted (on (λ (r : Row). column r 0) value_cmp) rows
 
--- the ids of the rows with a text, counted from this one
+-- the ids of the rows with this text, where ids count from this one
 abbrev pub ids_with : List ℕ → ℕ → List Leaf → List ℕ
 ids_with text id [] = []
 ids_with text id (leaf ∷ more) = if bytes_eq leaf.text text then id ∷ ids_with text (id + 1) more else ids_with text (id + 1) more
 
--- a row that has an id alone
+-- a row that has only an id
 abbrev pub id_row : ℕ → Row
 id_row id = Int (pos id) ∷ []
 

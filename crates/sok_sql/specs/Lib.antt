@@ -1,4 +1,4 @@
--- Each file holds words of public contracts.
+-- Definitions that public contracts use.
 pub mod Leaves
 pub mod Connections
 pub mod Causes

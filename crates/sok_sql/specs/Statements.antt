@@ -6,7 +6,7 @@ use Rattle.sok_sql.specs.Causes.{AreApart, IsExcused, IsTooBig}
 use Rattle.sok_sql.specs.Connections.{Holds, Shows, StaysOpen}
 use Rattle.sok_sql.specs.Leaves.{Leaf, HasLeaves}
 
--- a statement that adds a leaf with the next id, to whichever of its ends it comes
+-- what a statement does, however it ends, that adds a row with the next id
 pub record Inserts {X : Type 0} (old new : State) (id : ℕ) (leaf : Leaf) (result : Result X Error) : Type 0 where
   pub done : HasCleanDisk new → (leaves : List Leaf) → Holds old leaves → id ≡ 1 + length leaves
       → OnOk result (Holds new (leaves ++ leaf ∷ []) × StaysOpen old new)
@@ -15,13 +15,13 @@ pub record Inserts {X : Type 0} (old new : State) (id : ℕ) (leaf : Leaf) (resu
   pub cause : HasCleanDisk new → (leaves : List Leaf) → Holds old leaves → id ≡ 1 + length leaves → AreApart (leaves ++ leaf ∷ [])
       → IfErr result (λ e. IsTooBig id leaf ⊎ IsExcused old new e)
 
--- what was true of the leaves before, and what is true of them with the leaf with an id changed
+-- if `Before` is true of the rows, `After` is true of them once the row with this id is changed
 abbrev pub UpdatesLeaf : (List Leaf → Type 0) → (List Leaf → Type 0) → ℕ → (Leaf → Leaf) → Type 0
 UpdatesLeaf Before After id change =
     (leaves : List Leaf) (index : ℕ) (leaf : Leaf) → Before leaves → id ≡ 1 + index → slice_get leaves index ≡ Some leaf
     → After (slice_set leaves index (change leaf))
 
--- a statement that changes the leaf with an id, to whichever of its ends it comes
+-- what a statement does, however it ends, that changes the row with this id
 pub record Updates {X : Type 0} (old new : State) (id : ℕ) (change : Leaf → Leaf) (result : Result X Error) : Type 0 where
   pub done : HasCleanDisk new → UpdatesLeaf (Holds old) (λ leaves. OnOk result (Holds new leaves × StaysOpen old new)) id change
   pub kept : HasCleanDisk new → (leaves : List Leaf) → Holds old leaves → OnErr result (Holds new leaves)

@@ -2,12 +2,12 @@
 //!
 //! | Module | What it holds |
 //! |---|---|
-//! | `making` | the table is made |
-//! | `reading` | rows are read |
-//! | `writing` | a row is added or changed |
+//! | `making` | creating the table |
+//! | `reading` | reading rows |
+//! | `writing` | adding or changing a row |
 //!
-//! A clause says what a connection shows under the premise that the disk has returned what was
-//! written (`HasCleanDisk` of the state after the call). In memory that is always so.
+//! Clauses about what a connection shows assume that the disk returned what was written
+//! (`HasCleanDisk` of the state after the call). In memory that is always so.
 #![tactic(auto)]
 
 pub mod making;

@@ -1,4 +1,4 @@
-//! Making the table of levels.
+//! Creating the table of levels.
 
 ghost use Rattle.std.specs.Prelude.{◌≡◌, ◌≤◌, [], false, IfErr, IsTrue, OnOk, OnErr};
 ghost use Rattle.sqlite.specs.Held.{state};
@@ -10,7 +10,7 @@ ghost use Rattle.sok_sql.specs.Leaves.{level_schema, no_schema};
 
 use sqlite::{Alter, Connection, Error};
 
-/// Makes the table, where it is not there yet.
+/// Creates the table. Fails if it is already there.
 pub fn create<S: Alter>(conn: &mut Connection<S>) -> Result<(), Error>
     ensures made { HasCleanDisk (state S.Store conn.new)
         → (IsTrue (state S.Store conn.old).is_open

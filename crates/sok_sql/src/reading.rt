@@ -11,7 +11,7 @@ ghost use Rattle.sok_sql.specs.Leaves.{id_row, ids_with, last_ids, row_at, shown
 
 use sqlite::{Alter, Connection, Error, Row, params};
 
-/// All rows, in order of their ids.
+/// Returns all rows, in order of their ids.
 pub fn all_rows<S: Alter>(conn: &mut Connection<S>) -> Result<Vec<Row>, Error>
     ensures rests { Rests (state S.Store conn.old) (state S.Store conn.new) }
     ensures rows { HasCleanDisk (state S.Store conn.new)
@@ -41,7 +41,7 @@ pub fn all_rows<S: Alter>(conn: &mut Connection<S>) -> Result<Vec<Row>, Error>
     )
 }
 
-/// The row with an id, counted from 1, if there is one.
+/// Returns the row with this id, if there is one; ids count from 1.
 pub fn row_at<S: Alter>(conn: &mut Connection<S>, id: u32) -> Result<Option<Row>, Error>
     ensures rests { Rests (state S.Store conn.old) (state S.Store conn.new) }
     ensures row { HasCleanDisk (state S.Store conn.new)
@@ -58,7 +58,7 @@ pub fn row_at<S: Alter>(conn: &mut Connection<S>, id: u32) -> Result<Option<Row>
     }
 }
 
-/// The least id of a row with a text, if there is one.
+/// Returns the least id of a row with this text, if there is one.
 pub fn find<S: Alter>(conn: &mut Connection<S>, text: &str) -> Result<Option<u32>, Error>
     ensures rests { Rests (state S.Store conn.old) (state S.Store conn.new) }
     ensures found { HasCleanDisk (state S.Store conn.new)
@@ -75,7 +75,7 @@ pub fn find<S: Alter>(conn: &mut Connection<S>, text: &str) -> Result<Option<u32
     }
 }
 
-/// How many rows there are. It is the id of the last one.
+/// Returns how many rows there are, which is also the id of the last one.
 pub fn count<S: Alter>(conn: &mut Connection<S>) -> Result<u32, Error>
     ensures rests { Rests (state S.Store conn.old) (state S.Store conn.new) }
     ensures count { HasCleanDisk (state S.Store conn.new)
@@ -96,7 +96,7 @@ pub fn count<S: Alter>(conn: &mut Connection<S>) -> Result<u32, Error>
     }
 }
 
-/// The id in the first row, if there is one.
+/// Returns the id in the first row, if there is one.
 fn first_id(rows: &[Row]) -> Result<Option<u32>, Error>
     ensures first { (ids : List ℕ) → rows.now ≡ map id_row ids
         → IfOk result (λ id. id ≡ slice_get ids 0) }
@@ -112,7 +112,7 @@ fn first_id(rows: &[Row]) -> Result<Option<u32>, Error>
     }
 }
 
-/// The row with an id, counted from 1, if there is one.
+/// Returns the row with this id, if there is one; ids count from 1.
 fn rows_at<S: Alter>(conn: &mut Connection<S>, id: u32) -> Result<Vec<Row>, Error>
     ensures rests { Rests (state S.Store conn.old) (state S.Store conn.new) }
     ensures rows { HasCleanDisk (state S.Store conn.new)
@@ -129,7 +129,7 @@ fn rows_at<S: Alter>(conn: &mut Connection<S>, id: u32) -> Result<Vec<Row>, Erro
     )
 }
 
-/// The ids of the rows with a text, in order.
+/// Returns the ids of the rows with this text, in order.
 fn ids_of<S: Alter>(conn: &mut Connection<S>, text: &str) -> Result<Vec<Row>, Error>
     ensures rests { Rests (state S.Store conn.old) (state S.Store conn.new) }
     ensures rows { HasCleanDisk (state S.Store conn.new)
@@ -145,7 +145,7 @@ fn ids_of<S: Alter>(conn: &mut Connection<S>, text: &str) -> Result<Vec<Row>, Er
     )
 }
 
-/// The id of the last row, if there is one.
+/// Returns the id of the last row, if there is one.
 fn last_rows<S: Alter>(conn: &mut Connection<S>) -> Result<Vec<Row>, Error>
     ensures rests { Rests (state S.Store conn.old) (state S.Store conn.new) }
     ensures rows { HasCleanDisk (state S.Store conn.new)

@@ -7,7 +7,7 @@ ghost use Rattle.sok_sql.specs.Statements.{Inserts, Updates};
 
 use sqlite::{Alter, Connection, Error, params};
 
-/// Writes the row of a new level: no best, verdict 0.
+/// Inserts the row of a new level: no best solution, verdict 0.
 pub fn insert<S: Alter>(
     conn: &mut Connection<S>,
     id: u32,
@@ -26,7 +26,7 @@ pub fn insert<S: Alter>(
     }
 }
 
-/// Writes the letters of a best solution, how many push and how many there are, and verdict 0.
+/// Writes the letters of a best solution, how many of them push, how many there are, and verdict 0.
 pub fn set_best<S: Alter>(
     conn: &mut Connection<S>,
     id: u32,

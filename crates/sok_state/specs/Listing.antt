@@ -1,4 +1,4 @@
--- The legal pushes of a state, listed from the first on.
+-- The legal pushes of a state, listed in order.
 use Rattle.std.specs.Prelude.{ℕ, ◌≡◌, ◌+◌, ◌*◌, ◌<◌, ◌↔◌, List, AllPairs, Contains, IsTrue, Some}
 use Rattle.sok_rules.specs.declared.cell.Dir.{Dir}
 use Rattle.sok_board.specs.Area.{BoardView, beside, spot_of}
@@ -9,25 +9,25 @@ use Rattle.sok_state.specs.declared.key.Key.{Key}
 use Rattle.sok_state.specs.declared.push.Push.{Push}
 use Rattle.sok_state.specs.Pushes.{IsLegal, Reaches, rank}
 
--- of a state, the squares that its boxes leave free, and those to which the man comes
+-- the squares that the boxes of a state leave free, and those that the player reaches
 pub record IsDrawn (b : BoardView) (key : Key) (free seen : List ℕ) : Type 0 where
   pub placed : IsPlaced b key.boxes key.least
   pub left : Draws b (λ n. Contains key.boxes n → ⊥) free
   pub reached : Reaches b key seen
 
--- the square beside one is of a set
+-- the square beside another is in a set
 pub record HasBeside (b : BoardView) (set : List ℕ) (square : ℕ) (d : Dir) : Type 0 where
   pub there : ℕ
   pub is : beside b square d ≡ Some there
   pub has : IsTrue (has set (spot_of b there))
 
--- ahead of the box is a square without a box
+-- the square ahead of the box has no box
 pub record IsClear (b : BoardView) (key : Key) (push : Push) : Type 0 where
   pub ahead : ℕ
   pub ahead_is : beside b push.from push.dir ≡ Some ahead
   pub clear : Contains key.boxes ahead → ⊥
 
--- the place of a push, if each square had a box and each push were legal
+-- the place of a push among those of all squares in all directions
 abbrev pub place : Push → ℕ
 place push = push.from * 4 + rank push.dir
 

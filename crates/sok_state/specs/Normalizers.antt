@@ -1,4 +1,4 @@
--- What makes keys: it keeps the area of a board.
+-- A normalizer, which makes keys: it keeps the area of a board.
 use Rattle.std.specs.Prelude.{◌<◌, length}
 use Rattle.sok_board.specs.Area.{BoardView}
 use Rattle.sok_field.specs.Numbers.{Draws}

@@ -1,4 +1,4 @@
--- Packed keys are compared by the numbers that they hold, and what is equal stands for one key.
+-- Packed keys are compared by the numbers that they hold: they are equal exactly if they represent the same key.
 use Rattle.std.proofs.Common.{ℕ, ◌≡◌, ◌<◌, ◌+◌, ◌*◌, ◌^◌, ◌↔◌, ◌&&◌, ◌==◌, sym, ap, ◌∙◌, subst, List, Bool, true, Contains, arith, length, get_or}
 use Rattle.std.specs.Bool.{Decides}
 use Rattle.std.proofs.lemmas.Bool.Decides.{nat_tests}
@@ -34,7 +34,7 @@ eq_from_same xs ys m n lists number =
     let equal : (m == n) ≡ true = grind (arith, nat_tests, number) in
     λ i. listed i && equal i
 
--- words with all bits of others are no less
+-- words that have all bits of others are no less than these
 no_less : (xs ys : List ℕ) → ((r : ℕ) → get_or xs r 0 < 2 ^ 64) → squares_of xs ≡ squares_of ys → (s : Spot) → has xs s ≡ true → has ys s ≡ true
 no_less xs ys fits same s on =
     let column = has-col xs s (fits s.row) on in
@@ -44,7 +44,7 @@ no_less xs ys fits same s on =
     let there : Contains (squares_of ys) n = subst (λ squares. Contains squares n) same ((Contains-squares_of xs n).1 here) in
     ap (has ys) (sym bit) ∙ (Contains-squares_of ys n).0 there
 
--- words of which one has the squares of the other are the same
+-- words with the same squares are equal
 same_words : (xs ys : List ℕ) → length xs ≡ length ys → ((r : ℕ) → get_or xs r 0 < 2 ^ 64) → ((r : ℕ) → get_or ys r 0 < 2 ^ 64)
     → squares_of xs ≡ squares_of ys → xs ≡ ys
 same_words xs ys long fits also_fits same =
@@ -59,7 +59,7 @@ same_bits N a b of_a of_b = (
       (same_words a.boxes b.boxes (of_a.long ∙ sym of_b.long) of_a.fits of_b.fits (λ i. (same i).boxes)) (λ i. (same i).least),
 )
 
--- so is it with lists
+-- the same holds of lists
 pub same_list : (a b : ListKey) → IsShortList a → IsShortList b
     → (numbers_eq a.boxes.items b.boxes.items a.least b.least ≡ true) ↔ (list_state a ≡ list_state b)
 same_list a b _ _ = (

@@ -6,7 +6,8 @@ use Rattle.sok_state.specs.declared.store.Store.TheVariants.{One, Two, Four, Six
 use Rattle.sok_state.specs.PackedKeys.{list_limit, TakesListMove}
 use Rattle.sok_state.specs.Tables.{IsAt, Tabled}
 
--- what it holds, and a bit for each square below 64 for each word; lists have each square, but to spare for a key of few boxes alone
+-- The table that a store represents. Its room is 64 squares for each word of bits. Lists have room for each square of a board, but no spare places: a key with
+-- many boxes is inserted only after they are converted to bits.
 abbrev pub seen : Store → Tabled
 seen (One table) = record { entries = table.entries; room = 64; spare = table.spare }
 seen (Two table) = record { entries = table.entries; room = 128; spare = table.spare }
@@ -15,7 +16,7 @@ seen (Sixteen table) = record { entries = table.entries; room = 1024; spare = ta
 seen (SixtyFour table) = record { entries = table.entries; room = 4096; spare = table.spare }
 seen (Listed alloc table) = record { entries = table.entries; room = 4096; spare = 0 }
 
--- it has a form for a key of so many boxes
+-- the store has a form for a key with so many boxes
 abbrev pub TakesCount : Store → ℕ → Type 0
 TakesCount (One table) boxes = ⊤
 TakesCount (Two table) boxes = ⊤
@@ -24,7 +25,7 @@ TakesCount (Sixteen table) boxes = ⊤
 TakesCount (SixtyFour table) boxes = ⊤
 TakesCount (Listed alloc table) boxes = boxes ≤ list_limit
 
--- it has a form for the key that comes next to the one at an index
+-- the store has a form for the key after a push from the key at an index
 abbrev pub TakesMove : Store → ℕ → ℕ → ℕ → Type 0
 TakesMove (One table) index from to = ⊤
 TakesMove (Two table) index from to = ⊤

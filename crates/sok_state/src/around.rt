@@ -1,4 +1,4 @@
-//! Where the player comes after a push, told from the squares around its box.
+//! Where the player can walk after a push, derived from the squares around its box.
 
 ghost use Rattle.std.specs.Prelude.{ℕ, List, ◌≡◌, ◌<◌, IfSome, IsTrue, length};
 ghost use Rattle.sok_rules.specs.declared.cell.Dir.{Dir};
@@ -17,9 +17,10 @@ use sok_board::board::Board;
 use sok_field::field::Field;
 use sok_rules::cell::Dir;
 
-/// The least square that the player can walk to after a push that brought its box to a square, over
-/// the squares that the boxes leave free now. It is told from where he came before, if the squares
-/// around the box tell it, and else by a flood, for which the last set is a place.
+/// Returns the least square that the player can walk to after a push that brought its box to `to`.
+/// `free` holds the squares that the boxes leave free now, `reached` those that he reached before.
+/// If the squares around the box suffice, the answer is derived from `reached`; otherwise it is
+/// found by a flood, which overwrites `seen`.
 pub(crate) fn least_after(
     board: &Board,
     key: &Key,
@@ -44,8 +45,8 @@ pub(crate) fn least_after(
     }
 }
 
-/// Makes the squares to which the player came before such a push those to which he comes after it, and
-/// tells the least of them.
+/// Turns `reached` from the squares that the player reached before such a push into those that he
+/// reaches after it, and returns the least of them.
 pub(crate) fn reach_after(
     board: &Board,
     key: &Key,
@@ -74,9 +75,9 @@ pub(crate) fn reach_after(
     }
 }
 
-/// Whether the squares around a box that was pushed show that the player still comes to where he
-/// came before, but for the square that the box has taken, and to the one that it has left, and no
-/// further; and the least of those squares is not taken.
+/// Returns whether the squares around a pushed box show that the player's region only loses the
+/// square that the box takes and gains the one that it left, and that the lost square is not its
+/// least. False says nothing.
 fn keeps_reached(
     board: &Board,
     least: Sq,
@@ -100,7 +101,7 @@ fn keeps_reached(
     opens_nothing(board, free, reached, push.from) && parts_nothing(board, free, reached, push, to)
 }
 
-/// Whether the player came to each free square beside one.
+/// Returns whether the player reached each free square beside `square`.
 fn opens_nothing(board: &Board, free: &Field, reached: &Field, square: Sq) -> bool
     requires accepted { IsAccepted board.now }
     requires exists { square < length board.now.area }
@@ -113,7 +114,7 @@ fn opens_nothing(board: &Board, free: &Field, reached: &Field, square: Sq) -> bo
         && is_reached(board, free, reached, square, Dir::Down)
 }
 
-/// Whether the player came to the square beside one, if it is free.
+/// Returns whether the player reached the square on one side of `square`. True if it is not free.
 fn is_reached(board: &Board, free: &Field, reached: &Field, square: Sq, side: Dir) -> bool
     requires accepted { IsAccepted board.now }
     requires exists { square < length board.now.area }
@@ -125,8 +126,8 @@ fn is_reached(board: &Board, free: &Field, reached: &Field, square: Sq, side: Di
     }
 }
 
-/// Whether the player comes to each free square beside a box that was pushed, around it, if he came to
-/// the square that it has taken.
+/// Returns whether the player reaches each free square beside a pushed box past its corners. True
+/// if he had not reached the square that it takes.
 fn parts_nothing(board: &Board, free: &Field, reached: &Field, push: Push, to: Sq) -> bool
     requires accepted { IsAccepted board.now }
     requires from { push.from < length board.now.area }
@@ -137,7 +138,7 @@ fn parts_nothing(board: &Board, free: &Field, reached: &Field, push: Push, to: S
     !reached.has(board.spot(to)) || is_led_around(board, free, push, to)
 }
 
-/// Whether the player comes to each free square beside a box that was pushed, around it.
+/// Returns whether the player reaches each free square beside a pushed box past its corners.
 fn is_led_around(board: &Board, free: &Field, push: Push, to: Sq) -> bool
     requires accepted { IsAccepted board.now }
     requires from { push.from < length board.now.area }
@@ -150,8 +151,8 @@ fn is_led_around(board: &Board, free: &Field, push: Push, to: Sq) -> bool
         && is_led(board, free, push, to, Dir::Down)
 }
 
-/// Whether the player comes to the square beside a box that was pushed, if it is free, past one
-/// corner of the box, or past two to the one ahead of it.
+/// Returns whether the player reaches the square on one side of a pushed box: past one corner of
+/// the box, or past two to the square ahead of it. True if it is not free.
 fn is_led(board: &Board, free: &Field, push: Push, to: Sq, side: Dir) -> bool
     requires accepted { IsAccepted board.now }
     requires from { push.from < length board.now.area }
@@ -170,7 +171,7 @@ fn is_led(board: &Board, free: &Field, push: Push, to: Sq, side: Dir) -> bool
         || past_corners(board, free, push, other) == beside
 }
 
-/// The directions across one.
+/// Returns the two directions across `dir`.
 fn across(dir: Dir) -> (Dir, Dir) {
     match dir {
         Dir::Left | Dir::Right => (Dir::Up, Dir::Down),
@@ -178,8 +179,8 @@ fn across(dir: Dir) -> (Dir, Dir) {
     }
 }
 
-/// The square to which the player comes past a corner of a box that was pushed: to a side, and along
-/// the push.
+/// Returns the square that the player reaches past one corner of a pushed box: one step to `side`,
+/// and one along the push. None if one of the two squares is not free.
 fn past_corner(board: &Board, free: &Field, push: Push, side: Dir) -> Option<Sq>
     requires accepted { IsAccepted board.now }
     requires from { push.from < length board.now.area }
@@ -190,7 +191,8 @@ fn past_corner(board: &Board, free: &Field, push: Push, side: Dir) -> Option<Sq>
     free_beside(board, free, corner, push.dir)
 }
 
-/// The square to which he comes past two: along the push once more, and back from the side.
+/// Returns the square that the player reaches past two corners: one more step along the push, and
+/// one back from the side. None if a square on the way is not free.
 fn past_corners(board: &Board, free: &Field, push: Push, side: Dir) -> Option<Sq>
     requires accepted { IsAccepted board.now }
     requires from { push.from < length board.now.area }
@@ -201,7 +203,7 @@ fn past_corners(board: &Board, free: &Field, push: Push, side: Dir) -> Option<Sq
     free_beside(board, free, corner, side.opposite())
 }
 
-/// The square beside one, if it is free.
+/// Returns the square beside `square`, if it is free.
 fn free_beside(board: &Board, free: &Field, square: Sq, dir: Dir) -> Option<Sq>
     requires accepted { IsAccepted board.now }
     requires exists { square < length board.now.area }

@@ -1,4 +1,4 @@
-//! Keys in bits.
+//! Keys as sets of bits.
 
 ghost use Rattle.std.specs.Prelude.{ℕ, ◌<◌, ◌^◌, slice_index};
 ghost use Rattle.sok_state.specs.PackedKeys.{IsOfWords, TakesBits, TakesBitsMove, bit_state};
@@ -9,8 +9,8 @@ use sok_board::area::Sq;
 use sok_field::numbers;
 use sok_rules::fault::Memory;
 
-/// A state as its `Key` tells it: the squares of its boxes as bits by their numbers, and the least
-/// square that the player can walk to. `N` words have a bit for each square of the board.
+/// A packed `Key`: the squares of its boxes as bits by their numbers, and the least square that the
+/// player can walk to. `N` words have a bit for each square of the board.
 #[derive(Clone, Copy, PartialEq, Eq, Hash)]
 pub(crate) struct BitKey<const N: usize> {
     boxes: [u64; N],
@@ -46,7 +46,7 @@ impl<const N: usize> Packed for BitKey<N> {
         self.least
     }
 
-    /// It asks first for room for each bit.
+    /// Reserves room for one square per bit first.
     fn list(&self, squares: &mut Vec<Sq>) -> Result<(), Memory> {
         squares.reserve(64 * N)?;
         squares.clear();
@@ -67,7 +67,7 @@ impl<const N: usize> Packed for BitKey<N> {
     }
 }
 
-/// Each word has 64 bits, so keys with the same squares are the same.
+/// Shows that each word has 64 bits, so that keys with the same squares are equal. It does nothing.
 fn fit(words: &[u64])
     ensures { (r : ℕ) → slice_index words.now r < 2 ^ 64 }
 {

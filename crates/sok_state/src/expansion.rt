@@ -15,8 +15,8 @@ use sok_board::board::Board;
 use sok_rules::fault::Memory;
 use std::alloc::Global;
 
-/// A state whose pushes are followed: laid out, with its legal pushes. It is kept from state to
-/// state, so that nothing is made anew.
+/// A loaded state with its legal pushes. It is reused from state to state, so that its buffers are
+/// allocated once.
 #[derive(Drop)]
 pub struct Expansion {
     pub scene: Scene,
@@ -24,7 +24,7 @@ pub struct Expansion {
 }
 
 impl Expansion {
-    /// No state yet. It keeps the allocator for the boxes and the pushes.
+    /// Returns an expansion without a state. It keeps the allocator for the boxes and the pushes.
     pub fn new(alloc: Global, board: &Board) -> Expansion
         ensures { (boxes : List ℕ) × IsLaidOut board.now boxes result.scene.layout }
     {
@@ -34,8 +34,8 @@ impl Expansion {
         }
     }
 
-    /// Takes a state: it is laid out, and its legal pushes are listed. It refuses only for want of
-    /// memory, and is then of no more use.
+    /// Loads a state and lists its legal pushes. Errors: `Memory`; the expansion must not be used
+    /// afterwards.
     pub fn open(&mut self, board: &Board, key: &Key) -> Result<(), Memory>
         requires accepted { IsAccepted board.now }
         requires key { IsKey board.now key.now }
@@ -50,8 +50,8 @@ impl Expansion {
         list_pushes(board, key, &self.scene, &mut self.pushes)
     }
 
-    /// Follows a push of the state that was taken: takes the one that it leads to, and tells its key.
-    /// It refuses only for want of memory, and is then of no more use.
+    /// Follows a push of the loaded state: loads the state that it leads to, and returns its key.
+    /// Errors: `Memory`; the expansion must not be used afterwards.
     pub fn follow(
         &mut self,
         alloc: Global,

@@ -20,7 +20,7 @@ use sok_rules::fault::Memory;
 use std::alloc::Global;
 
 /// A state: the squares of its boxes, and the least square that the player can walk to. Positions
-/// of a board are the same state exactly where their keys are equal.
+/// of a board are the same state exactly if their keys are equal.
 #[derive(Drop)]
 pub struct Key {
     pub boxes: BoxSet,
@@ -28,8 +28,7 @@ pub struct Key {
 }
 
 impl Key {
-    /// The key of the state in which boxes stand on some squares and the player on another. It
-    /// refuses only for want of memory.
+    /// Returns the key of the state with these boxes and the player on `player`. Errors: `Memory`.
     pub fn of(alloc: Global, board: &Board, boxes: &BoxSet, player: Sq) -> Result<Key, Memory>
         requires { IsPlaced board.now boxes.now player }
         ensures boxes { IfOk result (λ key. key.boxes ≡ boxes.now) }
@@ -40,7 +39,7 @@ impl Key {
         Ok(key_of(board, boxes.copy(alloc)?, player))
     }
 
-    /// The key of the start. It refuses only for want of memory.
+    /// Returns the key of the start. Errors: `Memory`.
     pub fn start(alloc: Global, board: &Board) -> Result<Key, Memory>
         ensures key { IfOk result (IsKeyOf board.now (start board.now.rows)) }
         ensures of_board { IfOk result (IsKey board.now) }
@@ -51,7 +50,7 @@ impl Key {
         Ok(key_of(board, boxes, player))
     }
 
-    /// A copy of the key.
+    /// Copies the key. Errors: `Memory`.
     pub fn copy(&self, alloc: Global) -> Result<Key, Memory>
         ensures { IfOk result (λ key. key ≡ self.now) }
     {
@@ -62,7 +61,7 @@ impl Key {
     }
 }
 
-/// The key with these boxes.
+/// Returns the key of the state with these boxes and the player on `player`.
 pub(crate) fn key_of(board: &Board, boxes: BoxSet, player: Sq) -> Key
     requires { IsPlaced board.now boxes player }
     ensures boxes { result.boxes ≡ boxes }
@@ -76,8 +75,8 @@ pub(crate) fn key_of(board: &Board, boxes: BoxSet, player: Sq) -> Key
     key_over(board, boxes, player, &mut free, &mut seen)
 }
 
-/// The same over sets that are lent: the area, of which the squares that the boxes leave free stay,
-/// and a place for those that the player comes to.
+/// Like `key_of`, with sets that the caller lends: `area` is the board's area, from which the boxes
+/// are removed; `seen` is overwritten with the squares that the player reaches.
 pub(crate) fn key_over(
     board: &Board,
     boxes: BoxSet,

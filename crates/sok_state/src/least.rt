@@ -12,8 +12,8 @@ use sok_board::board::Board;
 use sok_field::drawing;
 use sok_field::field::Field;
 
-/// The least square to which the player walks from one, over the squares that boxes leave free. The
-/// other set becomes that of those that the player comes to.
+/// Returns the least square that the player can walk to from `player` over the squares in `free`,
+/// which the boxes leave free. `seen` is overwritten with all squares that he reaches.
 pub(crate) fn least_square(board: &Board, free: &Field, seen: &mut Field, player: Sq) -> Sq
     requires accepted { IsAccepted board.now }
     requires drawn { (boxes : List ℕ) × IsPlaced board.now boxes player

@@ -19,8 +19,8 @@ use sok_rules::cell::Dir;
 use sok_rules::fault::Memory;
 use std::alloc::Global;
 
-/// The pushes that are legal from some position of a state: boxes rising, and for each left, up,
-/// right and down. It refuses only for want of memory.
+/// Returns the pushes that are legal from some position of a state: by ascending squares of their
+/// boxes, and for each box left, up, right and down. Errors: `Memory`.
 pub fn pushes(alloc: Global, board: &Board, key: &Key) -> Result<Vec<Push>, Memory>
     requires { IsKey board.now key.now }
     ensures legal { IfOk result (λ pushes. All (IsLegal board.now key.now) pushes.items) }
@@ -35,8 +35,9 @@ pub fn pushes(alloc: Global, board: &Board, key: &Key) -> Result<Vec<Push>, Memo
     Ok(pushes)
 }
 
-/// Makes a list the pushes that `pushes` gives of a state that is laid out. It refuses only for want
-/// of memory, and then the list stays: it asks first for room for four pushes of each box.
+/// Replaces `pushes` with those that the function `pushes` returns, for a state that is loaded into
+/// `scene`. It first reserves room for four pushes of each box. Errors: `Memory`; `pushes` then
+/// stays as it was.
 pub fn list_pushes(
     board: &Board,
     key: &Key,
@@ -62,7 +63,8 @@ pub fn list_pushes(
     Ok(())
 }
 
-/// Lists the legal pushes of one box of a state that is drawn, for which there is room.
+/// Appends the legal pushes of the box on `from`. `free` and `seen` are the squares that the boxes
+/// leave free and those that the player reaches; the list has room for four pushes.
 fn list_box(board: &Board, free: &Field, seen: &Field, from: Sq, pushes: &mut Vec<Push>)
     requires accepted { IsAccepted board.now }
     requires exists { from < length board.now.area }
@@ -83,7 +85,7 @@ fn list_box(board: &Board, free: &Field, seen: &Field, from: Sq, pushes: &mut Ve
     list_push(board, free, seen, Push { from, dir }, pushes);
 }
 
-/// Lists a push of a box of a state that is drawn, for which there is room, if it is legal.
+/// Appends a push of a box if it is legal. The list has room for it.
 fn list_push(board: &Board, free: &Field, seen: &Field, push: Push, pushes: &mut Vec<Push>)
     requires accepted { IsAccepted board.now }
     requires exists { push.from < length board.now.area }
@@ -99,7 +101,7 @@ fn list_push(board: &Board, free: &Field, seen: &Field, push: Push, pushes: &mut
     }
 }
 
-/// Whether a push of a box of a state that is drawn is legal: the player comes behind the box, and
+/// Returns whether a push of a box is legal: the player reaches the square behind the box, and
 /// ahead of it is neither a wall nor a box.
 fn is_legal(board: &Board, free: &Field, seen: &Field, push: Push) -> bool
     requires accepted { IsAccepted board.now }
@@ -111,7 +113,7 @@ fn is_legal(board: &Board, free: &Field, seen: &Field, push: Push) -> bool
         && has_beside(board, free, push.from, push.dir)
 }
 
-/// Whether the square beside one is of a set.
+/// Returns whether the square beside `square` is in `set`.
 fn has_beside(board: &Board, set: &Field, square: Sq, dir: Dir) -> bool
     requires accepted { IsAccepted board.now }
     requires exists { square < length board.now.area }

@@ -1,22 +1,23 @@
-//! States: positions that differ by walking alone, known by a key.
+//! States: positions that differ only by walking are one state, which has one key.
 //!
 //! | Module | What it holds |
 //! |---|---|
-//! | `around` | where the player comes after a push, told from the squares around its box (private) |
-//! | `bit_key` | keys in bits (private)
-//! | `expansion` | a state whose pushes are followed |
-//! | `key` | the boxes of a state, and the least square that the player can walk to |
-//! | `law` | keys tell states apart |
+//! | `around` | the player's region after a push, from the squares around its box (private) |
+//! | `bit_key` | keys as sets of bits (private) |
+//! | `expansion` | a loaded state with its legal pushes, which are followed |
+//! | `key` | the key of a state: its boxes, and the least square that the player can walk to |
+//! | `law` | keys are equal exactly if the states are |
 //! | `least` | the least square that the player can walk to (private) |
 //! | `legal` | the pushes that are legal from a state |
-//! | `list_key` | keys as lists of few squares (private)
-//! | `normalizer` | keys of positions, made one after another |
-//! | `packed` | the key of a state in bits (private) |
-//! | `packed_table` | packed keys of one width in the order of their insertion, with depths (private) |
-//! | `push` | a push, by the square of its box and its direction |
-//! | `scene` | a state that is laid out |
-//! | `stepping` | the state that a push leads to from one that is laid out |
-//! | `table` | keys in the order of their insertion, with depths, as narrow as a board allows |
+//! | `list_key` | keys as short lists of squares (private) |
+//! | `normalizer` | keys of many positions, with shared buffers |
+//! | `packed` | the trait of the keys that a table keeps (private) |
+//! | `packed_table` | packed keys of one form in order of insertion, with depths (private) |
+//! | `push` | a push: the square of its box, and its direction |
+//! | `scene` | a loaded state |
+//! | `stepping` | the state that a push leads to from a loaded one |
+//! | `store` | a table of packed keys, in the form that suits a board (private) |
+//! | `table` | keys in order of insertion, with depths, as narrow as a board allows |
 #![tactic(auto)]
 
 mod around;

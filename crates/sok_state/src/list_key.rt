@@ -1,4 +1,4 @@
-//! Keys as lists of few squares.
+//! Keys as short lists of squares.
 
 ghost use Rattle.std.specs.Prelude.{◌<◌, ◌↔◌, IsTrue};
 ghost use Rattle.sok_board.specs.Limits.{square_limit};
@@ -10,10 +10,10 @@ use arrayvec::ArrayVec;
 use sok_board::area::Sq;
 use sok_rules::fault::Memory;
 
-/// How many boxes such a key has at most.
+/// The greatest number of boxes of such a key.
 pub(crate) const BOXES: usize = 16;
 
-/// A state as its `Key` tells it: the squares of its boxes, rising, and the least square that the
+/// A packed `Key`: the squares of its boxes in ascending order, and the least square that the
 /// player can walk to.
 #[derive(PartialEq, Eq, Hash, Drop)]
 pub(crate) struct ListKey {
@@ -22,7 +22,7 @@ pub(crate) struct ListKey {
 }
 
 impl ListKey {
-    /// Whether the key after a push is a list, too.
+    /// Returns whether the key after a push is short enough for a list, too.
     pub(crate) fn takes_move(&self, from: Sq, to: Sq) -> bool
         requires fits { IsShortList self.now }
         requires to { to < square_limit }

@@ -1,4 +1,4 @@
-//! Keys of positions, made one after another.
+//! Keys of many positions, with shared buffers.
 
 ghost use Rattle.std.specs.Prelude.{◌≡◌};
 ghost use Rattle.sok_board.specs.Area.{IsAccepted, position_of};
@@ -12,8 +12,8 @@ use sok_board::box_set::BoxSet;
 use sok_field::drawing;
 use sok_field::field::Field;
 
-/// What makes keys of positions of a board, one after another (the Sokoban Wiki calls it to normalize
-/// the player's position): sets of squares that are kept from one to the next.
+/// Makes keys of positions of a board, one after another (the Sokoban Wiki calls this normalizing
+/// the player's position). Its sets of squares are reused.
 #[derive(Drop)]
 pub struct Normalizer {
     area: Field,
@@ -24,7 +24,7 @@ pub struct Normalizer {
 impl Normalizer {
     ghost use Rattle.sok_state.specs.Normalizers.{Normalizes};
 
-    /// One for a board.
+    /// Returns a normalizer for a board.
     pub fn new(board: &Board) -> Normalizer
         ensures of_board { Normalizes board.now result }
         ensures accepted { IsAccepted board.now }
@@ -36,7 +36,7 @@ impl Normalizer {
         }
     }
 
-    /// The key with these boxes of the state in which the player stands on a square.
+    /// Returns the key of the state with these boxes and the player on `player`.
     pub fn key(&mut self, board: &Board, boxes: BoxSet, player: Sq) -> Key
         requires accepted { IsAccepted board.now }
         requires of_board { Normalizes board.now self.old }

@@ -16,9 +16,9 @@ use sok_rules::fault::Memory;
 use std::alloc::Global;
 use std::marker::Model;
 
-/// What a `Table` holds, in packed keys. It is seen as the list of the keys that they stand for,
-/// with their depths, and what it has to spare: the lesser of what its two parts have. Its methods
-/// are those of a `Table`.
+/// The packed keys of a `Table`, with their depths; the methods are those of `Table`. The contracts
+/// see it as the list of the keys that these represent, with their depths, and its spare places:
+/// the lesser number of those that its two parts have.
 #[derive(Drop)]
 pub(crate) struct PackedTable<K: Packed> {
     keys: IndexSet<K>,
@@ -41,7 +41,7 @@ impl<K: Packed> Model for PackedTable<K> {
 }
 
 impl<K: Packed> PackedTable<K> {
-    /// A table without a key.
+    /// Returns an empty table.
     pub(crate) fn new(alloc: Global) -> PackedTable<K>
         ensures { result.entries ≡ [] }
     {
@@ -51,7 +51,7 @@ impl<K: Packed> PackedTable<K> {
         }
     }
 
-    /// How many keys the table has.
+    /// Returns the number of keys.
     pub(crate) fn len(&self) -> usize
         ensures count { result ≡ length self.now.entries }
         ensures distinct { HasDistinctKeys self.now.entries }
@@ -59,7 +59,7 @@ impl<K: Packed> PackedTable<K> {
         self.keys.len()
     }
 
-    /// Each key has a form. It does nothing.
+    /// Shows that each key has a packed form. It does nothing.
     pub(crate) fn forms(&self)
         ensures { (key : Key) → Contains (keys_of self.now.entries) key
             → (form : K) × K.fits form × (K.state_of form ≡ key) }
@@ -80,7 +80,7 @@ impl<K: Packed> PackedTable<K> {
         self.enter(K::of(key), depth)
     }
 
-    /// Inserts the key after a push from the one at an index.
+    /// Inserts the key after a push from the key at `index`.
     pub(crate) fn insert_next(
         &mut self,
         index: usize,
@@ -128,7 +128,7 @@ impl<K: Packed> PackedTable<K> {
         Ok((index, new))
     }
 
-    /// The index of a key.
+    /// Returns the index of a key.
     pub(crate) fn get(&self, key: &Key) -> Option<usize>
         requires { K.takes key.now }
         ensures { MatchOption result
@@ -137,7 +137,7 @@ impl<K: Packed> PackedTable<K> {
         self.find(&K::of(key))
     }
 
-    /// The index of the key after a push from the one at an index.
+    /// Returns the index of the key after a push from the key at `index`.
     pub(crate) fn get_next(&self, index: usize, from: Sq, to: Sq, least: Sq) -> Option<usize>
         requires exists { index < length self.now.entries }
         requires takes { (key : Key) → IsAt self.now.entries key index
@@ -149,7 +149,7 @@ impl<K: Packed> PackedTable<K> {
         self.find(&next)
     }
 
-    /// The index of a packed key.
+    /// Returns the index of a packed key.
     fn find(&self, key: &K) -> Option<usize>
         requires { K.fits key.now }
         ensures { MatchOption result
@@ -159,7 +159,7 @@ impl<K: Packed> PackedTable<K> {
         self.keys.get_index_of(key)
     }
 
-    /// The key at an index. Its boxes are listed in a place for squares first.
+    /// Returns the key at an index. `squares` is overwritten with its boxes.
     pub(crate) fn key(
         &self,
         alloc: Global,
@@ -178,7 +178,7 @@ impl<K: Packed> PackedTable<K> {
         })
     }
 
-    /// The packed key at an index.
+    /// Returns the packed key at an index.
     pub(crate) fn packed(&self, index: usize) -> &K
         requires exists { index < length self.now.entries }
         ensures there { IsAt self.now.entries (K.state_of result.now) index }
@@ -187,7 +187,7 @@ impl<K: Packed> PackedTable<K> {
         self.keys.get_index(index).unwrap()
     }
 
-    /// The depth of the key at an index.
+    /// Returns the depth of the key at an index.
     pub(crate) fn depth(&self, index: usize) -> u32
         requires exists { index < length self.now.entries }
         ensures { slice_get (values_of self.now.entries) index ≡ Some result }

@@ -3,8 +3,7 @@
 use sok_board::area::Sq;
 use sok_rules::cell::Dir;
 
-/// A push, by the square on which the box stands before it and the direction in which the box
-/// goes.
+/// A push: the square of the box before it, and the direction in which the box moves.
 #[derive(Clone, Copy, PartialEq, Eq)]
 pub struct Push {
     pub from: Sq,

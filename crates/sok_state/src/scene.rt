@@ -1,4 +1,4 @@
-//! A state that is laid out.
+//! A loaded state.
 
 ghost use Rattle.std.specs.Prelude.{ℕ, List, OnOk};
 ghost use Rattle.sok_board.specs.Area.{IsAccepted};
@@ -14,8 +14,8 @@ use sok_region::layout::Layout;
 use sok_rules::fault::Memory;
 use std::alloc::Global;
 
-/// A state that is laid out: its boxes, the squares to which the player comes, and a place for those
-/// to which he comes after a push. It is kept from state to state, so that nothing is made anew.
+/// A loaded state: its boxes, the squares that the player reaches, and a buffer for those that he
+/// reaches after a push. It is reused from state to state, so that its buffers are allocated once.
 #[derive(Drop)]
 pub struct Scene {
     pub layout: Layout,
@@ -24,7 +24,7 @@ pub struct Scene {
 }
 
 impl Scene {
-    /// No state yet. It keeps the allocator for the boxes.
+    /// Returns a scene without a state. It keeps the allocator for the boxes.
     pub fn new(alloc: Global, board: &Board) -> Scene
         ensures laid { (boxes : List ℕ) × IsLaidOut board.now boxes result.layout }
         ensures accepted { IsAccepted board.now }
@@ -36,7 +36,7 @@ impl Scene {
         }
     }
 
-    /// Lays out a state. It refuses only for want of memory, and is then of no more use.
+    /// Loads a state. Errors: `Memory`; the scene must not be used afterwards.
     pub fn open(&mut self, board: &Board, key: &Key) -> Result<(), Memory>
         requires accepted { IsAccepted board.now }
         requires key { IsKey board.now key.now }

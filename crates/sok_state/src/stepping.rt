@@ -1,4 +1,4 @@
-//! The state that a push leads to from one that is laid out.
+//! The state that a push leads to from a loaded one.
 
 ghost use Rattle.std.specs.Prelude.{◌≡◌, Some, IfOk, OnErr};
 ghost use Rattle.std.specs.List.Sorted.{IsStrictlyIncreasing};
@@ -19,7 +19,7 @@ use sok_board::box_set::BoxSet;
 use sok_rules::fault::Memory;
 use std::alloc::Global;
 
-/// The square to which a push from a state brings its box.
+/// Returns the square to which a legal push moves its box.
 pub fn square_ahead(board: &Board, push: Push) -> Sq
     requires accepted { IsAccepted board.now }
     requires legal { (key : Key) × IsKey board.now key × IsLegal board.now key push }
@@ -28,7 +28,7 @@ pub fn square_ahead(board: &Board, push: Push) -> Sq
     board.neighbour(push.from, push.dir).unwrap()
 }
 
-/// The boxes after a push from a state, which brings its box to a square.
+/// Returns the boxes after a push that moves its box to `to`. Errors: `Memory`.
 fn boxes_after(
     alloc: Global,
     board: &Board,
@@ -47,9 +47,9 @@ fn boxes_after(
 }
 
 impl Scene {
-    /// The least square that the player can walk to after a push from the state that is laid out,
-    /// which brings its box to a square. The boxes are shifted by the push and back, so that nothing
-    /// is laid out anew. It takes no memory.
+    /// Returns the least square that the player can walk to after a push from the loaded state that
+    /// moves its box to `to`. The boxes are shifted by the push and back, so that no state is
+    /// loaded anew. It allocates nothing.
     pub fn step(&mut self, board: &Board, key: &Key, push: Push, to: Sq) -> Sq
         requires accepted { IsAccepted board.now }
         requires pushable { IsPushable board.now push self.old key.now }
@@ -65,8 +65,7 @@ impl Scene {
         least
     }
 
-    /// The key of the state that a push leads to from the one that is laid out. It refuses only for
-    /// want of memory.
+    /// Returns the key of the state that a push leads to from the loaded one. Errors: `Memory`.
     pub fn after(
         &mut self,
         alloc: Global,
@@ -85,8 +84,8 @@ impl Scene {
         Ok(Key { boxes, least })
     }
 
-    /// Follows a push: the state that it leads to is laid out in place of the one before, and its key
-    /// is told. It refuses only for want of memory, and then nothing changes.
+    /// Follows a push: loads the state that it leads to in place of the one before, and returns its
+    /// key. Errors: `Memory`; then nothing changes.
     pub fn follow(
         &mut self,
         alloc: Global,

@@ -1,4 +1,4 @@
-//! A table of packed keys, in the form that a board asks for.
+//! A table of packed keys, in the form that suits a board.
 
 ghost use Rattle.std.specs.Prelude.{ℕ, ◌≡◌, ◌<◌, ◌≤◌, ◌↔◌, ◌⊎◌, IfOk, IsOk, IsTrue};
 ghost use Rattle.std.specs.Prelude.{OnOk, Contains, length};
@@ -14,8 +14,9 @@ use sok_board::area::Sq;
 use sok_rules::fault::Memory;
 use std::alloc::Global;
 
-/// Keys in bits, as narrow as the squares of a board allow. Those of a board of more than 1,024
-/// squares are lists, until one has too many boxes for that.
+/// A table of packed keys: bits, as few words as the squares of the board need. On a board of more
+/// than 1,024 squares the keys are lists, until one has too many boxes for a list; then all become
+/// bits.
 #[derive(Drop)]
 pub(crate) enum Store {
     One(PackedTable<BitKey<1>>),
@@ -26,7 +27,7 @@ pub(crate) enum Store {
     Listed(Global, PackedTable<ListKey>),
 }
 
-/// Whether a store has a form for a key of so many boxes. If not, it has no such key.
+/// Returns whether a store has a form for a key with so many boxes. If not, it has no such key.
 pub(crate) fn takes_count(store: &Store, boxes: usize) -> bool
     ensures takes { IsTrue result ↔ TakesCount store.now boxes }
     ensures lacks { IsTrue result ⊎ ((key : Key) → length key.boxes ≡ boxes
@@ -42,8 +43,8 @@ pub(crate) fn takes_count(store: &Store, boxes: usize) -> bool
     }
 }
 
-/// Whether a store has a form for the key after a push from the one at an index. If not, it has no
-/// such key.
+/// Returns whether a store has a form for the key after a push from the key at `index`. If not, it
+/// has no such key.
 pub(crate) fn takes_next(store: &Store, index: usize, from: Sq, to: Sq) -> bool
     requires exists { index < length (seen store.now).entries }
     requires to { to < (seen store.now).room }
@@ -61,8 +62,8 @@ pub(crate) fn takes_next(store: &Store, index: usize, from: Sq, to: Sq) -> bool
     }
 }
 
-/// Makes lists bits, and leaves what is bits. It refuses only for want of memory, and then nothing
-/// has changed.
+/// Converts lists to bits; a store of bits stays as it is. Errors: `Memory`; then nothing has
+/// changed.
 pub(crate) fn widen(store: &mut Store) -> Result<(), Memory>
     ensures entries { (seen store.new).entries ≡ (seen store.old).entries }
     ensures room { (seen store.new).room ≡ (seen store.old).room }
@@ -81,7 +82,7 @@ pub(crate) fn widen(store: &mut Store) -> Result<(), Memory>
     Ok(())
 }
 
-/// A table of the same keys with the same depths, in bits.
+/// Returns a table of the same keys with the same depths, in bits. Errors: `Memory`.
 fn in_bits(alloc: Global, lists: &PackedTable<ListKey>) -> Result<PackedTable<BitKey<64>>, Memory>
     ensures { IfOk result (λ bits. bits.entries ≡ lists.now.entries) }
 {

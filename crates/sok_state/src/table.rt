@@ -15,7 +15,7 @@ use sok_rules::fault::Memory;
 use std::alloc::Global;
 use std::marker::Model;
 
-/// What a table of packed keys answers, whatever their form.
+/// Evaluates an expression on a table of packed keys, whatever their form.
 macro_rules! packed {
     ($store:expr, $table:ident => $answer:expr) => {
         match $store {
@@ -29,9 +29,9 @@ macro_rules! packed {
     };
 }
 
-/// The states that are known, each with a depth, in the order of their insertion. A table is seen
-/// as the list of its keys with their depths, its room (the squares below it have a place), and
-/// what it has to spare: how many more keys fit before it asks for memory.
+/// The known states, each with a depth, in the order of their insertion. The contracts see a table
+/// as the list of its keys with their depths, its room (keys on squares below it can be inserted),
+/// and its spare places: how many more keys fit before it allocates.
 #[derive(Drop)]
 pub struct Table {
     store: Store,
@@ -47,8 +47,8 @@ impl Model for Table {
 }
 
 impl Table {
-    /// A table without a key, and with room for so many squares. It keeps the allocator for what is
-    /// inserted.
+    /// Returns an empty table with room for `squares` squares. It keeps the allocator for later
+    /// insertions.
     pub fn new(alloc: Global, squares: usize) -> Table
         requires { squares ≤ square_limit }
         ensures none { result.entries ≡ [] }
@@ -74,11 +74,11 @@ impl Table {
         Table { store }
     }
 
-    /// Lets go of the table. It stands apart: a function that does more takes much longer to prove
-    /// where it lets go of one.
+    /// Frees the table. A larger function that frees a table takes much longer to prove, so this is
+    /// one of its own.
     pub fn let_go(self) {}
 
-    /// How many keys the table has.
+    /// Returns the number of keys.
     pub fn len(&self) -> usize
         ensures count { result ≡ length self.now.entries }
         ensures distinct { HasDistinctKeys self.now.entries }
@@ -86,9 +86,11 @@ impl Table {
         packed!(&self.store, table => table.len())
     }
 
-    /// Inserts a key, and tells its index and whether it is new: a new key goes last, with the
-    /// depth, and one that is present keeps its place and its depth. It refuses a new key alone, for
-    /// want of memory, and never while there is a place to spare; it takes up at most one place.
+    /// Inserts a key, and returns its index and whether it is new. A new key goes last, with the
+    /// depth; a key that is present keeps its index and its depth. An insertion takes at most one
+    /// spare place.
+    ///
+    /// Errors: `Memory`, only for a new key, and never while a place is spare.
     pub fn insert(&mut self, key: &Key, depth: u32) -> Result<(usize, bool), Memory>
         requires { All (λ square. square < self.old.room) key.now.boxes }
         ensures inserted { IfOk result (λ told.
@@ -105,8 +107,8 @@ impl Table {
         packed!(&mut self.store, table => table.insert(key, depth))
     }
 
-    /// Inserts the key after a push from the one at an index, as `insert` does: a box has left one
-    /// square and come to another, and the player can walk to another least square.
+    /// Inserts the key after a push from the key at `index`, as `insert` does: a box moved from
+    /// `from` to `to`, and `least` is the least square that the player can walk to.
     pub fn insert_next(
         &mut self,
         index: usize,
@@ -132,7 +134,7 @@ impl Table {
         packed!(&mut self.store, table => table.insert_next(index, from, to, least, depth))
     }
 
-    /// The index of a key, counted from 0, and None where the table lacks it.
+    /// Returns the index of a key, counted from 0, or None if the table lacks it.
     pub fn get(&self, key: &Key) -> Option<usize>
         requires { All (λ square. square < self.now.room) key.now.boxes }
         ensures { MatchOption result
@@ -144,8 +146,8 @@ impl Table {
         packed!(&self.store, table => table.get(key))
     }
 
-    /// The index of the key after a push from the one at an index, as `insert_next` makes it, and
-    /// None where the table lacks it. It takes no memory.
+    /// Returns the index of the key after a push from the key at `index`, as `insert_next` makes
+    /// it, or None if the table lacks it. It allocates nothing.
     pub fn get_next(&self, index: usize, from: Sq, to: Sq, least: Sq) -> Option<usize>
         requires exists { index < length self.now.entries }
         requires from { from < self.now.room }
@@ -159,8 +161,7 @@ impl Table {
         packed!(&self.store, table => table.get_next(index, from, to, least))
     }
 
-    /// The key at an index. Its boxes are listed in a place for squares first. It refuses only for
-    /// want of memory.
+    /// Returns the key at an index. `squares` is overwritten with its boxes. Errors: `Memory`.
     pub fn key(&self, alloc: Global, squares: &mut Vec<Sq>, index: usize) -> Result<Key, Memory>
         requires exists { index < length self.now.entries }
         requires few { HasFewBoxes self.now.entries index }
@@ -169,7 +170,7 @@ impl Table {
         packed!(&self.store, table => table.key(alloc, squares, index))
     }
 
-    /// The depth of the key at an index.
+    /// Returns the depth of the key at an index.
     pub fn depth(&self, index: usize) -> u32
         requires { index < length self.now.entries }
         ensures { slice_get (values_of self.now.entries) index ≡ Some result }
@@ -177,8 +178,8 @@ impl Table {
         packed!(&self.store, table => table.depth(index))
     }
 
-    /// Lowers the depth of the key at an index. False, and no change, where the depth there is no
-    /// greater.
+    /// Lowers the depth of the key at an index. Returns false, and changes nothing, if the depth
+    /// there is no greater than `depth`.
     pub fn lower_depth(&mut self, index: usize, depth: u32) -> bool
         requires { index < length self.old.entries }
         ensures lowered { Lowers self.old.entries index depth result self.new.entries }

@@ -1,4 +1,4 @@
--- What a call makes of the book that a connection holds.
+-- What a call does to the book that a connection holds.
 use Rattle.std.specs.Prelude.{ℕ, ℤ, pos, negsuc, ◌≡◌, ◌+◌, ◌⊎◌, List, Option, Some, None, IsTrue, slice_get}
 use Rattle.sqlite.specs.State.{State, HasCleanDisk, Survives}
 use Rattle.sok_book.specs.declared.fault.BookFault.{BookFault}
@@ -11,7 +11,7 @@ use Rattle.sok_sql.specs.Leaves.{Leaf}
 use Rattle.sok_store.specs.Faults.{IsOutside}
 use Rattle.sok_store.specs.Rows.{HasBook, HoldsBook, ShowsBook, StoresBook, leaves_of}
 
--- an id as a number: 0, which is the id of no page, where it is negative
+-- an id as a natural number; a negative id becomes 0, which is the id of no page
 abbrev pub id_number : ℤ → ℕ
 id_number (pos n) = n
 id_number (negsuc n) = 0
@@ -21,27 +21,27 @@ abbrev pub kept_if_given : Option (List ℕ) → Option (List ℕ)
 kept_if_given None = None
 kept_if_given (Some title) = kept_title title
 
--- the connection holds the book that it held before, and of it this is true
+-- the connection still holds the book that it held before, and this is true of the book
 abbrev pub KeepsBook : State → State → (Book → Type 0) → Type 0
 KeepsBook old new P = HasCleanDisk new → (book : Book) → HoldsBook old book → P book × HoldsBook new book
 
--- and this fault is for a cause that is not of the command, or one of the book's own
+-- the same, and the fault has an outside cause, or the command is refused on this book
 abbrev pub KeepsRefused : State → State → (Book → BookFault → Type 0) → BookFault → Type 0
 KeepsRefused old new Refuses fault = KeepsBook old new (λ book. IsOutside fault ⊎ Refuses book fault)
 
--- the connection is open and shows the book that it held before, and of it this is true
+-- the connection is open and still shows the book that it held before, and this is true of the book
 abbrev pub FindsBook : State → State → (Book → Type 0) → Type 0
 FindsBook old new P = HasCleanDisk new → (book : Book) → HoldsBook old book → P book × StoresBook new book
 
--- the connection is open and shows a book that is made so of the one that it held before
+-- the connection is open and shows a book that is made in this way of the one that it held before
 abbrev pub StoresChange : State → State → (Book → Book → Type 0) → Type 0
 StoresChange old new Makes = HasCleanDisk new → (book : Book) → HoldsBook old book → (after : Book) × Makes book after × StoresBook new after
 
--- the connection holds a book that is made so of the one that it held before
+-- the connection holds a book that is made in this way of the one that it held before
 abbrev pub ChangesBook : State → State → (Book → Book → Type 0) → Type 0
 ChangesBook old new Makes = HasCleanDisk new → (book : Book) → HoldsBook old book → (after : Book) × Makes book after × HoldsBook new after
 
--- a book that is shown is followed by one that is made so of it, which is shown then, and the connection is not shut
+-- if the connection showed a book, it shows one that is made of it in this way, and it was not shut
 abbrev pub Carries : State → State → (Book → Book → Type 0) → Type 0
 Carries old new Makes =
     HasCleanDisk new → (book : Book) → ShowsBook old book → (after : Book) × Makes book after × ShowsBook new after × StaysOpen old new
@@ -50,19 +50,19 @@ Carries old new Makes =
 abbrev pub KeepsOpen : State → State → Type 0
 KeepsOpen old new = HasCleanDisk new → (book : Book) → HoldsBook old book → StaysOpen old new
 
--- a call that was done leaves the connection open, so that what it holds is shown
+-- after a successful call the connection is open, so it shows what it holds
 abbrev pub EndsOpen : State → State → Type 0
 EndsOpen old new = HasCleanDisk new → (book : Book) → HoldsBook old book → IsTrue new.is_open
 
--- the connection shows on what it showed, unless the call is refused for a cause that is not of the command
+-- the connection still shows what it showed, or the fault has an outside cause
 abbrev pub ShowsOn : State → State → BookFault → Type 0
 ShowsOn old new fault = IsOutside fault ⊎ Carries old new (λ book after. after ≡ book)
 
--- a stop in the middle of the call leaves the book before it, or one that is made so of it
+-- a stop in the middle of the call leaves the book from before it, or one that is made of it in this way
 abbrev pub Stops : State → State → (Book → Book → Type 0) → Type 0
 Stops old new Makes = Survives old new (λ db. (book : Book) → ShowsBook old book → (after : Book) × Makes book after × HasBook db after)
 
--- no other book is made
+-- the call makes no other book
 abbrev pub MakesNone : Book → Book → Type 0
 MakesNone book after = ⊥
 
@@ -70,7 +70,7 @@ MakesNone book after = ⊥
 abbrev pub HasTooBig : Book → Type 0
 HasTooBig book = (n : ℕ) × (leaf : Leaf) × (slice_get (leaves_of book) n ≡ Some leaf) × IsTooBig (1 + n) leaf
 
--- `Database` is answered only where the connection gave a cause, or where the book that would be made so has a row that is too big
+-- the fault is `Database` only if the connection gave a cause, or if a book that the call would make has a row that is too big
 abbrev pub IsCaused : State → State → (Book → Book → Type 0) → BookFault → Type 0
 IsCaused old new Makes fault =
     fault ≡ Database → HasCleanDisk new → (book : Book) → HoldsBook old book → ((after : Book) × Makes book after × HasTooBig after) ⊎ HasCause old new

@@ -1,4 +1,4 @@
--- What calls make of the book that a connection holds, one after another, refused ones among them.
+-- What a list of calls, some of them refused, makes of the book that a connection holds.
 use Rattle.std.specs.Prelude.{ℕ, ℤ, ◌≡◌, ◌⊎◌, List, [], Option, Result, OnOk}
 use Rattle.sqlite.specs.State.{State, HasCleanDisk}
 use Rattle.sok_rules.specs.declared.cell.Dir.{Dir}
@@ -15,22 +15,22 @@ use Rattle.sok_store.specs.Calls.{ChangesBook}
 use Rattle.sok_store.specs.Running.{RunsAdding, RunsVerdict, RunsOffering, RunsProving, RunsTelling}
 use Rattle.sok_store.specs.declared.standing.Standing.{Standing}
 
--- a call that is refused, and keeps the book, or that is one command
+-- a call is refused and keeps the book, or it is one command
 pub record IsCall (old new : State) : Type 0 where
   pub clean : HasCleanDisk new → HasCleanDisk old
   pub turns : ChangesBook old new (λ book after. (after ≡ book) ⊎ OneCommand book after)
 
--- calls over connections, one after another
+-- calls on connections, one after another
 pub data AreCalls {C : Type 0} (shows : C → State) (old : C) : C → Type 0 where
   none : AreCalls shows old old
   more : (mid new : C) → AreCalls shows old mid → IsCall (shows mid) (shows new) → AreCalls shows old new
 
--- accepted commands, one after another, make a book of another
+-- accepted commands, one after another, make the second book of the first
 pub data IsMadeOf (book : Book) : Book → Type 0 where
   none : IsMadeOf book book
   more : (before after : Book) → IsMadeOf book before → OneCommand before after → IsMadeOf book after
 
--- each of these is a call, by what its clauses say
+-- by its contract, each of these is a call
 abbrev pub AddsAreCalls : {C : Type 0} → (C → State) → Type 0
 AddsAreCalls {C} shows =
     (old new : C) (rows : Rows) (title : Option (List ℕ)) (result : Result ℤ BookFault) → OnOk result (IsAcceptable rows)
@@ -56,12 +56,12 @@ VerdictsAreCalls {C} shows =
     (old new : C) (id : ℕ) (rows : Rows) (claim : Claim) (result : Result (Unit {0}) BookFault) → RunsVerdict (shows old) (shows new) id rows claim result
     → IsCall (shows old) (shows new)
 
--- after calls the connection holds what the accepted ones made of the book before, and where that was true it is
+-- after calls the connection holds what the accepted ones made of the book before; if that book was true, so is this one
 abbrev pub CallsFold : {C : Type 0} → (C → State) → Type 0
 CallsFold {C} shows =
     (old new : C) → AreCalls shows old new → HasCleanDisk (shows new) → (book : Book) → HoldsBook (shows old) book
     → (after : Book) × IsMadeOf book after × HoldsBook (shows new) after × (IsTrueBook book → IsTrueBook after)
 
--- from the empty book on, all is made by commands
+-- what accepted commands make of the empty book is a book that commands made
 abbrev pub EmptyBooksAreMade : Type 0
 EmptyBooksAreMade = (after : Book) → IsMadeOf [] after → IsMade after

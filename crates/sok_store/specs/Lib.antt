@@ -1,5 +1,5 @@
--- Words of public contracts: a book as rows (`Rows`, `BadRows`, `Laws`, `Faults`), and its calls (`Calls`, `Verdicts`, `Standing`, `Opening`, `Histories`). The
--- proof's own: `Changing`, `Parsing`, `ReadRows`, `Readable`, `Running`.
+-- Definitions that public contracts use: a book as rows (`Rows`, `BadRows`, `Laws`, `Faults`), and its calls (`Calls`, `Verdicts`, `Standing`, `Opening`,
+-- `Histories`). For proofs only: `Changing`, `Parsing`, `ReadRows`, `Readable`, `Running`.
 pub mod BadRows
 pub mod Calls
 pub mod Changing

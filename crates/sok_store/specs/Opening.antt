@@ -1,4 +1,4 @@
--- What is opened as a book, and why something is not.
+-- What is opened as a book, and why something is refused.
 use Rattle.std.specs.Prelude.{ℤ, ◌≡◌, ◌⊎◌, []}
 use Rattle.sqlite.specs.State.{State, HasCleanDisk}
 use Rattle.sqlite.specs.Tree.{Trees}
@@ -12,12 +12,12 @@ use Rattle.sok_store.specs.Faults.{IsOutside}
 use Rattle.sok_store.specs.Rows.{HasBook, StoresBook}
 use Rattle.sok_store.specs.BadRows.{IsBadTable}
 
--- where there was nothing the book is empty, and where there was the table it is that of exactly its rows
+-- if there was nothing, the book is empty; if there was the table, it is the book of exactly these rows
 pub record Opens (old new : State) : Type 0 where
   pub made : old.now.schema ≡ no_schema → StoresBook new []
   pub found : old.now.schema ≡ level_schema → (book : Book) × HasBook old.now.trees book × StoresBook new book
 
--- what a stop in the middle of opening leaves, if not what was there: where there was nothing the empty book, and nothing where the table was there
+-- What a stop in the middle of opening may leave instead of what was there: the empty book if there was nothing. If there was the table, nothing else is left.
 abbrev pub LeavesOpening : State → Trees → Type 0
 LeavesOpening old db = (old.now.schema ≡ no_schema → HasBook db []) × (old.now.schema ≡ level_schema → ⊥)
 
@@ -25,6 +25,6 @@ LeavesOpening old db = (old.now.schema ≡ no_schema → HasBook db []) × (old.
 abbrev pub IsUnopened : State → State → BookFault → Type 0
 IsUnopened old new fault = IsOutside fault ⊎ ((id : ℤ) × (fault ≡ BadBook id) × (HasCleanDisk new → IsKnown old → IsBadTable (old.now.trees 0) id))
 
--- of a database that was empty or had the table alone `Database` is answered only where the connection gave a cause
+-- if the database was empty or had only the table, the fault is `Database` only if the connection gave a cause
 abbrev pub IsCausedOpening : State → State → BookFault → Type 0
 IsCausedOpening old new fault = fault ≡ Database → HasCleanDisk new → IsKnown old → HasCause old new

@@ -1,4 +1,4 @@
--- What Rust can hold of a row.
+-- Which values of a row the program can read.
 use Rattle.std.specs.Prelude.{◌<◌, ◌^◌, IfSome, IsUtf8}
 use Rattle.sok_sql.specs.Leaves.{Leaf}
 

@@ -1,4 +1,4 @@
--- A page as what a row of the table of levels holds beside its id, and a book as the rows of this table.
+-- The values of a page in a row of the table, besides its id, and a book as the rows of the table.
 use Rattle.std.specs.Prelude.{ℕ, ◌≡◌, ◌≤◌, List, Some, length, map, option_map, slice_get}
 use Rattle.sqlite.specs.State.{State}
 use Rattle.sqlite.specs.Tree.{Trees}
@@ -17,7 +17,7 @@ verdict_number Untested = 0
 verdict_number Optimal = 1
 verdict_number Unsolvable = 2
 
--- the canonical text of its level, its title, the marked text of its best with its numbers, if there is one, and its verdict
+-- the canonical text of the level, its title, the marked text of its best solution with its pushes and moves, if there is one, and its verdict
 abbrev pub leaf_of : Page → Leaf
 leaf_of page = record {
   text = level_text page.level;
@@ -31,13 +31,13 @@ leaf_of page = record {
 abbrev pub leaves_of : Book → List Leaf
 leaves_of = map leaf_of
 
--- each page may be kept, no level stands there twice, and there are at most 10,000
+-- each page may be kept, no level occurs twice, and there are at most 10,000
 pub record IsKeptBook (book : Book) : Type 0 where
   pub pages : (n : ℕ) (page : Page) → slice_get book n ≡ Some page → IsKeptPage page
   pub once : (m n : ℕ) (page other : Page) → slice_get book m ≡ Some page → slice_get book n ≡ Some other → page.level ≡ other.level → m ≡ n
   pub few : length book ≤ level_limit
 
--- the table is exactly this book
+-- the table holds exactly this book
 abbrev pub HasBook : Trees → Book → Type 0
 HasBook db book = IsKeptBook book × HasLeaves db (leaves_of book)
 
@@ -45,10 +45,10 @@ HasBook db book = IsKeptBook book × HasLeaves db (leaves_of book)
 abbrev pub ShowsBook : State → Book → Type 0
 ShowsBook s book = IsKeptBook book × Shows s (leaves_of book)
 
--- so it is, and the connection is open
+-- the same, and the connection is open
 abbrev pub StoresBook : State → Book → Type 0
 StoresBook s book = IsKeptBook book × Stores s (leaves_of book)
 
--- so it is, unless a failure of the disk has shut the connection
+-- the same, unless a failure of the disk has shut the connection
 abbrev pub HoldsBook : State → Book → Type 0
 HoldsBook s book = IsKeptBook book × Holds s (leaves_of book)

@@ -1,4 +1,4 @@
-//! A level is added.
+//! Adding a level.
 
 ghost use Rattle.std.specs.Prelude.{◌≡◌, ◌≢◌, ◌⊎◌, IfErr, OnOk, option_map};
 ghost use Rattle.sqlite.specs.Held.{state};
@@ -22,7 +22,7 @@ use sok_sql::writing::insert;
 use sqlite::{Alter, Connection};
 use std::alloc::Global;
 
-/// Adds a level, or finds it, and answers its id.
+/// Adds a level, or finds it in the book, and returns its id.
 pub(crate) fn add_to<S: Alter>(
     conn: &mut Connection<S>,
     alloc: Global,
@@ -41,7 +41,7 @@ pub(crate) fn add_to<S: Alter>(
     }
 }
 
-/// Whether a board can be made of a level.
+/// Checks that a board can be made of a level.
 fn judge_level(alloc: Global, level: &Level) -> Result<(), BookFault>
     ensures accepted { OnOk result (IsAcceptable level.now) }
     ensures refused { IfErr result
@@ -54,7 +54,7 @@ fn judge_level(alloc: Global, level: &Level) -> Result<(), BookFault>
     }
 }
 
-/// Adds a level of which a board can be made, or finds it, and answers its id.
+/// Adds a level of which a board can be made, or finds it in the book, and returns its id.
 fn add_accepted<S: Alter>(
     conn: &mut Connection<S>,
     alloc: Global,
@@ -66,7 +66,7 @@ fn add_accepted<S: Alter>(
         level.now (kept_if_given (option_map (λ bytes. bytes.now) title.entry)) result }
     ensures other { IfErr result (λ fault. (cause : BoardFault) → fault ≢ BookFault.Level cause) }
 {
-    // A level tells with its rows that it is one.
+    // The contract of `rows` says that this is a level.
     let _rows = level.rows();
     let printed = match text_of(alloc, level) {
         Ok(printed) => printed,
@@ -80,7 +80,7 @@ fn add_accepted<S: Alter>(
     }
 }
 
-/// Adds the page of a level that is not in the book.
+/// Adds the page of a level that is not in the book, and returns its id.
 fn add_new<S: Alter>(
     conn: &mut Connection<S>,
     text: &str,
@@ -104,7 +104,7 @@ fn add_new<S: Alter>(
     }
 }
 
-/// The title that is kept, if one is given.
+/// Returns the title that is kept, if one is given.
 fn kept(title: Option<&[u8]>) -> Option<&[u8]>
     ensures { option_map (λ bytes. bytes.now) result
         ≡ kept_if_given (option_map (λ bytes. bytes.now) title.entry) }

@@ -42,15 +42,15 @@ use sqlite::{Alter, Connection};
 use std::alloc::Global;
 use std::marker::Model;
 
-/// A book in one table of a database. It is seen as its connection.
+/// A book in one table of a database. Contracts see it as its connection.
 ///
-/// What a call says of the book is said under the premises that the disk has returned what was
-/// written and that the connection held a book before. In memory the first is always so, and after
-/// `open` the second. A refused call leaves the book as it was. A stop in the middle of a call
-/// leaves the book before the call, or the book after it.
+/// The contracts assume that the disk returned what was written and that the connection held a book
+/// before the call. In memory the first is always so; after `open` the second is. A refused call
+/// leaves the book as it was. A stop in the middle of a call leaves the book from before the call,
+/// or from after it.
 ///
-/// Each call may also refuse as `Database`, where the database refused, or as `Memory`, in place of
-/// any later cause. Each makes one change of the database at most.
+/// In place of any later cause, a call may also fail with `Database`, if the database refused, or
+/// with `Memory`. Each call makes at most one change of the database.
 #[derive(Drop)]
 pub struct Book<S: Alter> {
     connection: Connection<S>,
@@ -67,7 +67,7 @@ impl<S: Alter> Model for Book<S> {
     ghost view = { λ b. b.connection };
 }
 
-/// A connection that was not opened as a book, and why.
+/// A connection that was not opened as a book, and the reason.
 #[derive(Drop)]
 pub struct OpenRefused<S: Alter> {
     pub connection: Connection<S>,
@@ -75,9 +75,10 @@ pub struct OpenRefused<S: Alter> {
 }
 
 impl<S: Alter> Book<S> {
-    /// Opens a database as a book, and makes its table where there is nothing. Every row of a table
-    /// is read. The first that breaks a rule of books is `BadBook`, and the connection comes back. A
-    /// stop in the middle leaves what was there, or the empty book where there was nothing.
+    /// Opens a database as a book, and creates its table if there is nothing. Otherwise it reads
+    /// every row. On an error the connection is returned with the fault; `BadBook` names the first
+    /// row that breaks a rule of books. A stop in the middle leaves what was there, or the empty
+    /// book if there was nothing.
     pub fn open(alloc: Global, connection: Connection<S>) -> Result<Book<S>, OpenRefused<S>>
         requires { (state S.Store connection).in_transaction ≡ false }
         ensures opens { IfOk result (λ book. HasCleanDisk (state S.Store book)
@@ -105,7 +106,7 @@ impl<S: Alter> Book<S> {
         }
     }
 
-    /// The connection, in the state in which the calls left it.
+    /// Returns the connection, in the state in which the calls left it.
     pub fn into_connection(self) -> Connection<S>
         ensures { result ≡ self }
     {
@@ -116,7 +117,8 @@ impl<S: Alter> Book<S> {
         connection
     }
 
-    /// The level with an id, counted from 1. Another id, a negative one among them, is `NoLevel`.
+    /// Returns the level with this id; ids count from 1. `NoLevel` if there is none, also for an id
+    /// that is not positive.
     pub fn get(&mut self, id: i64) -> Result<Record, BookFault>
         ensures found { IfOk result (λ kept. FindsBook (state S.Store self.old) (state S.Store self.new)
             (λ book. IsRecordAt book (id_number id) kept)) }
@@ -129,7 +131,7 @@ impl<S: Alter> Book<S> {
         record_at(&mut self.connection, self.alloc, id)
     }
 
-    /// All levels, in order of their ids.
+    /// Returns all levels, in order of their ids.
     pub fn list(&mut self) -> Result<Vec<Record>, BookFault>
         ensures kept { IfOk result
             (λ records. All (λ (kept : PageWithId). IsKeptPage kept.page) records.items) }
@@ -145,10 +147,12 @@ impl<S: Alter> Book<S> {
         records_in(&mut self.connection, self.alloc)
     }
 
-    /// Adds a level and answers its id. A level that is there keeps its id and its title. Of a
-    /// title its first line is kept, without spaces and tabs at its front, and without spaces, tabs
-    /// and CRs at its back; where nothing is left there is none. Refused are, in this order, a
-    /// level of which no board can be made, and a new level where there are 10,000.
+    /// Adds a level and returns its id. A level that is already there keeps its id and its title.
+    /// Of a title the first line is kept, without spaces and tabs at its front, and without spaces,
+    /// tabs and CRs at its back; if nothing is left, there is no title.
+    ///
+    /// Errors, in this order: `Level` if no board can be made of the level; `BookFull` if it is new
+    /// and there are 10,000.
     pub fn add(&mut self, level: &Level, title: Option<&[u8]>) -> Result<i64, BookFault>
         ensures accepted { OnOk result (IsAcceptable level.now) }
         ensures added { IfOk result (λ id. StoresChange (state S.Store self.old) (state S.Store self.new)
@@ -166,10 +170,12 @@ impl<S: Alter> Book<S> {
         add_to(&mut self.connection, self.alloc, level, title)
     }
 
-    /// Offers letters as a solution of the level with an id. They are `Stored` as its best where
-    /// there is none or it has more pushes, and its verdict is then untested; else the best is
-    /// `Kept`. Refused are, in this order, an id without a level, more than 1,000,000 letters, a
-    /// letter that is not legal, and letters that leave a box off a goal.
+    /// Offers letters as a solution of the level with this id. Returns `Stored` if they are now its
+    /// best solution, because there was none or it had more pushes; the verdict is then untested.
+    /// Otherwise returns `Kept`.
+    ///
+    /// Errors, in this order: `NoLevel`; `TooLong` if there are more than 1,000,000 letters;
+    /// `Blocked` if a letter is not legal; `NotSolved` if a box is left off a goal.
     pub fn offer(&mut self, id: i64, letters: &[Dir]) -> Result<Offer, BookFault>
         ensures offered { IfOk result (λ answer.
             StoresChange (state S.Store self.old) (state S.Store self.new)
@@ -189,7 +195,7 @@ impl<S: Alter> Book<S> {
         }
     }
 
-    /// Offers letters as `offer` does, and tells the pushes and moves of the best after that too.
+    /// Like `offer`, but also returns the pushes and moves of the best solution after the call.
     pub fn offer_with_best(&mut self, id: i64, letters: &[Dir]) -> Result<Standing, BookFault>
         ensures offered { IfOk result (λ told.
             StoresChange (state S.Store self.old) (state S.Store self.new)
@@ -208,11 +214,12 @@ impl<S: Alter> Book<S> {
         offer_to(&mut self.connection, self.alloc, id, letters)
     }
 
-    /// Proves the verdict of the level with an id by the bytes of a certificate, and answers what
-    /// they show: that its best has the fewest pushes, or that there is no solution. Refused are,
-    /// in this order, an id without a level, bytes that are no certificate, a claim of pushes where
-    /// there is no best (`NoBest`), a claim that is not about the best (`ClaimDiffers`), and a list
-    /// that is not closed.
+    /// Proves the verdict of the level with this id by a certificate, and returns its claim: that
+    /// the best solution has the fewest pushes, or that there is no solution.
+    ///
+    /// Errors, in this order: `NoLevel`; `Certificate` if the bytes are no certificate; `NoBest` if
+    /// pushes are claimed and there is no best solution; `ClaimDiffers` if the claim does not fit
+    /// the best solution; `Certificate` if the list is not closed.
     pub fn prove(&mut self, id: i64, certificate: &[u8]) -> Result<Claim, BookFault>
         ensures proved { IfOk result (λ shown.
             StoresChange (state S.Store self.old) (state S.Store self.new)
@@ -229,10 +236,12 @@ impl<S: Alter> Book<S> {
         prove_to(&mut self.connection, self.alloc, id, certificate)
     }
 
-    /// Sets the verdict of the level with an id by a claim on this level that is known to be true, so
-    /// that no certificate is read or judged: whoever calls it has a proof that no letters solve the
-    /// level with fewer pushes, or that none solve it. Refused are, in this order, an id at which this
-    /// level does not stand (`NoLevel`), and a claim that is not about its best (`ClaimDiffers`).
+    /// Sets the verdict of the level with this id by a claim that is known to be true of `level`,
+    /// so no certificate is read. The caller has a proof that no solution has fewer pushes, or that
+    /// there is none.
+    ///
+    /// Errors, in this order: `NoLevel` if the level with this id is not `level`; `ClaimDiffers` if
+    /// the claim does not fit the best solution.
     pub fn set_verdict(&mut self, id: i64, level: &Level, claim: Claim) -> Result<(), BookFault>
         requires { IsTrueOf level.now claim }
         ensures set { OnOk result (StoresChange (state S.Store self.old) (state S.Store self.new)

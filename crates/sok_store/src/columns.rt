@@ -21,14 +21,14 @@ use sok_rules::level::Level;
 use std::alloc::Global;
 use std::marker::Model;
 
-/// The values of a row's columns, apart from its id, as they stand in the table. They are seen as
-/// these values.
+/// The values of a row's columns, apart from its id, as they are in the table. Contracts see them
+/// as these values.
 #[derive(Drop)]
 pub(crate) struct Columns {
     /// The canonical text of the level.
     pub(crate) text: String,
     pub(crate) title: Option<Vec<u8>>,
-    /// The best solution, one letter for each direction, upper case exactly where it pushes.
+    /// The best solution: a letter for each direction, in upper case exactly if it pushes.
     pub(crate) lurd: Option<String>,
     /// How many of its letters push.
     pub(crate) pushes: Option<u32>,
@@ -54,7 +54,7 @@ impl Model for Columns {
     } };
 }
 
-/// The values of the columns for a best solution.
+/// The values of the columns of a best solution.
 #[derive(Drop)]
 pub(crate) struct BestColumns {
     pub(crate) lurd: String,
@@ -62,7 +62,7 @@ pub(crate) struct BestColumns {
     pub(crate) moves: u32,
 }
 
-/// Whether these are the values of a record.
+/// Returns whether these are the values of a record.
 pub(crate) fn are_of(alloc: Global, columns: &Columns, kept: &Record) -> Result<bool, Memory>
     ensures { IfOk result (λ same. IsTrue same ↔ columns.now ≡ leaf_of kept.now.page) }
 {
@@ -76,8 +76,8 @@ pub(crate) fn are_of(alloc: Global, columns: &Columns, kept: &Record) -> Result<
     )
 }
 
-/// Whether the values for a best solution are those of this one, or none of them is there where there
-/// is none.
+/// Returns whether the columns of the best solution hold this one, or are all empty if there is
+/// none.
 fn are_of_best(
     alloc: Global,
     columns: &Columns,
@@ -99,7 +99,7 @@ fn are_of_best(
     }
 }
 
-/// Whether two titles are the same, or none is there.
+/// Returns whether two titles are the same, or both are missing.
 fn is_same(title: &Option<Vec<u8>>, other: &Option<Vec<u8>>) -> bool
     ensures { IsTrue result ↔ option_map (λ bytes. bytes.items) title.now
         ≡ option_map (λ bytes. bytes.items) other.now }
@@ -113,7 +113,7 @@ fn is_same(title: &Option<Vec<u8>>, other: &Option<Vec<u8>>) -> bool
     }
 }
 
-/// Whether a text is there, and this one.
+/// Returns whether a text is there and is this one.
 fn is_text(words: &Option<String>, text: &str) -> bool
     ensures { IsTrue result ↔ option_map string_bytes words.now ≡ Some text.now }
 {
@@ -123,7 +123,7 @@ fn is_text(words: &Option<String>, text: &str) -> bool
     }
 }
 
-/// Whether a number is there, and this one.
+/// Returns whether a number is there and is this one.
 fn is_number(value: Option<u32>, number: u32) -> bool
     ensures { IsTrue result ↔ value ≡ Some number }
 {
@@ -133,7 +133,7 @@ fn is_number(value: Option<u32>, number: u32) -> bool
     }
 }
 
-/// The number that stands for a verdict in a table.
+/// Returns the number that stands for a verdict in the table.
 pub(crate) fn verdict_number(verdict: Verdict) -> u32
     ensures { result ≡ verdict_number verdict }
 {
@@ -144,8 +144,10 @@ pub(crate) fn verdict_number(verdict: Verdict) -> u32
     }
 }
 
-/// The values for letters that solve a level. Refused are, in this order, more than 1,000,000
-/// letters, a letter that is not legal, and letters that leave a box off a goal.
+/// Returns the values for letters that solve a level.
+///
+/// Errors, in this order: `TooLong` if there are more than 1,000,000 letters; `Blocked` if a letter
+/// is not legal; `NotSolved` if a box is left off a goal. Or `Memory`.
 pub(crate) fn best_columns(
     alloc: Global,
     level: &Level,
@@ -167,7 +169,7 @@ pub(crate) fn best_columns(
     })
 }
 
-/// A number of letters that may be kept, in 32 bits.
+/// Returns a number of letters that may be kept in 32 bits.
 fn narrow(count: u64) -> u32
     requires { count ≤ letter_limit }
     ensures { result ≡ count }

@@ -6,7 +6,7 @@ ghost use Rattle.sok_store.specs.Faults.{IsOutside};
 use sok_book::fault::BookFault;
 use sqlite::{Error, ErrorCode};
 
-/// Want of memory is `Memory`, and every other cause is `Database`.
+/// Returns `Memory` if the database ran out of memory, and `Database` for every other cause.
 pub fn fault_of(error: Error) -> BookFault
     ensures memory { error ≡ Error.SqliteFailure ErrorCode.OutOfMemory
         → result ≡ BookFault.Memory }

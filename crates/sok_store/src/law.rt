@@ -9,11 +9,11 @@ ghost use Rattle.sok_store.specs.Laws.{RowsHaveOnePage, RowsKeptBeforeAreKept};
 
 use sqlite::Alter;
 
-/// A book over a connection is the fold of the commands that were accepted: from any book that the
-/// connection holds, over any list of calls of `add`, `offer`, `offer_with_best`, `prove` and
-/// `set_verdict`, refused ones among them, it holds afterwards what the accepted ones make of it, one
-/// after another. A true book stays true, and of an empty database a book is made that commands have
-/// made.
+/// A book over a connection is the fold of its accepted commands. Start from any book that the
+/// connection holds, and make any list of calls of `add`, `offer`, `offer_with_best`, `prove` and
+/// `set_verdict`, some of which may be refused. Afterwards the connection holds the book that the
+/// accepted calls make of it, one after another. A true book stays true. From an empty database,
+/// the book is one that commands made.
 pub fn calls_are_folded<S: Alter>()
     ensures adds { AddsAreCalls (state S.Store) }
     ensures offers { OffersAreCalls (state S.Store) }
@@ -24,19 +24,20 @@ pub fn calls_are_folded<S: Alter>()
     ensures made { EmptyBooksAreMade }
 {}
 
-/// A row is of one page at most. So what is read of a row is the page that was written there.
+/// A row holds at most one page. So the page that is read of a row is the one that was written
+/// there.
 pub fn rows_have_one_page()
     ensures { RowsHaveOnePage }
 {}
 
-/// A row that was kept while a level had at most 64 rows and 64 columns, and an area of at most
-/// 1,024 squares, is kept. So a book that was written then opens with the same records.
+/// A row that was valid while a level had at most 64 rows and 64 columns, and an area of at most
+/// 1,024 squares, is still valid. So a book that was written then opens with the same records.
 pub fn rows_kept_before_are_kept()
     ensures { RowsKeptBeforeAreKept }
 {}
 
-/// Rows are of one book at most, and where they are of none, one row is the first that is bad. So
-/// what is told of a table is told of no other book, and of no other row.
+/// Rows hold at most one book. If they have a first bad row, they hold none, and no other id is
+/// that of a first bad row. So what is reported of a table fits no other book and no other row.
 pub fn rows_have_one_book()
     ensures one { RowsHaveOneBook }
     ensures none { BadRowsHaveNoBook }

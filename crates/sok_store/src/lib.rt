@@ -5,11 +5,11 @@
 //! | `book` | a book over a connection, and its calls |
 //! | `columns` | the values of one row (private) |
 //! | `fault` | faults of the database as faults of a book |
-//! | `law` | of which page and which book rows are, and what is true of any list of calls |
+//! | `law` | which page and which book rows hold, and what is true of any list of calls |
 //! | `page` | the record of one row (private) |
-//! | `parsing` | the record of which values are those of a row (private) |
-//! | `records` | the records of all rows, or the first row that is bad (private) |
-//! | `standing` | what is told of an offer |
+//! | `parsing` | the record that has given values, if there is one (private) |
+//! | `records` | the records of all rows, or the first bad row (private) |
+//! | `standing` | the answer to an offer, with the best solution after it |
 #![tactic(auto)]
 
 mod adding;

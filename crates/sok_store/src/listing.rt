@@ -1,4 +1,4 @@
-//! All levels of the book, as their rows stand in the table.
+//! Listing all levels of the book.
 
 ghost use Rattle.std.specs.Prelude.{All, IfErr, IfOk};
 ghost use Rattle.sqlite.specs.Held.{state};
@@ -16,7 +16,7 @@ use sok_sql::reading::all_rows;
 use sqlite::{Alter, Connection};
 use std::alloc::Global;
 
-/// All levels, in order of their ids.
+/// Returns all levels, in order of their ids.
 pub(crate) fn records_in<S: Alter>(
     conn: &mut Connection<S>,
     alloc: Global,

@@ -1,4 +1,4 @@
-//! A solution is offered.
+//! Offering a solution.
 
 ghost use Rattle.std.specs.Prelude.{◌≡◌, ◌<◌, IfErr, MatchOption, true};
 ghost use Rattle.sqlite.specs.Held.{state};
@@ -18,7 +18,7 @@ use sok_rules::cell::Dir;
 use sqlite::{Alter, Connection};
 use std::alloc::Global;
 
-/// Offers letters as a solution of the level with an id, and tells the best after that.
+/// Offers letters as a solution of the level with this id, and returns the best solution's numbers.
 pub(crate) fn offer_to<S: Alter>(
     conn: &mut Connection<S>,
     alloc: Global,
@@ -35,7 +35,7 @@ pub(crate) fn offer_to<S: Alter>(
     }
 }
 
-/// Offers letters as a solution of the level with an id.
+/// Does so with an id that may be one of a level.
 fn offer_at<S: Alter>(
     conn: &mut Connection<S>,
     alloc: Global,
@@ -68,7 +68,7 @@ fn offer_at<S: Alter>(
     }
 }
 
-/// What is told where the best of a level stays, since a solution does not push less.
+/// Returns the answer for a level whose best solution stays, since the offer has no fewer pushes.
 fn kept_best(kept: &Record, pushes: u32) -> Option<Standing>
     ensures { MatchOption result
         (is_better pushes (best_pushes kept.now.page) ≡ true)

@@ -1,4 +1,4 @@
-//! A database is opened as a book.
+//! Opening a database as a book.
 
 ghost use Rattle.std.specs.Prelude.{IfErr, OnErr, OnOk};
 ghost use Rattle.sqlite.specs.Held.{state};
@@ -15,7 +15,7 @@ use sqlite::{Alter, Connection, Error};
 use sqlite_resolve::CompileError;
 use std::alloc::Global;
 
-/// Makes the table where there is nothing, or reads all its rows.
+/// Creates the table if there is nothing; otherwise reads all its rows.
 pub(crate) fn prepare<S: Alter>(conn: &mut Connection<S>, alloc: Global) -> Result<(), BookFault>
     ensures opens { OnOk result
         (HasCleanDisk (state S.Store conn.new) → IsSettled (state S.Store conn.old)

@@ -10,8 +10,8 @@ use sok_book::record::Record;
 use sqlite::Row;
 use std::alloc::Global;
 
-/// The record of a row that has the id of its place, if it is that of a page that may be kept. Else
-/// it is `BadBook` with the row's id, or with its place where the id is no whole number.
+/// Returns the record of a row whose id is its place, if the row holds a page that may be kept.
+/// Otherwise fails with `BadBook` and the row's id, or its place if the id is no whole number.
 pub(crate) fn record_in(alloc: Global, place: u32, row: &Row) -> Result<Record, BookFault>
     ensures read { IfOk result (IsRecordIn place row.now) }
     ensures broken { IfErr result (IsNoRecordIn place row.now) }

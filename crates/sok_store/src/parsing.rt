@@ -1,4 +1,4 @@
-//! The record of which values are those of a row.
+//! Making the record that has given values.
 
 ghost use Rattle.std.specs.Prelude.{◌≡◌, ◌≢◌, ◌⊎◌, ◌↔◌, Err, IfErr, IfOk, IfSome, IsTrue, List};
 ghost use Rattle.std.specs.Prelude.{Some, option_map};
@@ -30,12 +30,14 @@ use sok_text::collection::Collection;
 use sok_text::lurd::{LurdFault, read_lurd};
 use std::alloc::{AllocError, Global};
 
-/// The record with an id of which these are the values: it is made of them, and then they have to be
-/// its own. Refused are, as `BadBook` with the id, those of no page that may be kept: the text is not
-/// the canonical text of an accepted level; the title is not one that is kept; of letters, pushes and
-/// moves some are there and some are not; the letters are not the marked text of at most 1,000,000
-/// that solve the level, with these pushes and moves; or the verdict is none, or does not go with the
-/// best.
+/// Returns the record with this id that has these values. It is made of them, and then its own
+/// values are compared with them.
+///
+/// Errors: `BadBook` with the id if the values are those of no page that may be kept: the text is
+/// not the canonical text of an accepted level; the title is not one that is kept; some of letters,
+/// pushes and moves are there and some are not; the letters are not the marked text of a solution
+/// with at most 1,000,000 letters and these pushes and moves; or the verdict is unknown or does not
+/// fit the best solution. Or `Memory`.
 pub(crate) fn record_of(alloc: Global, id: i64, columns: &Columns) -> Result<Record, BookFault>
     ensures id { IfOk result (λ kept. kept.id ≡ id) }
     ensures kept { IfOk result (λ kept. IsKeptPage kept.page) }
@@ -54,8 +56,8 @@ pub(crate) fn record_of(alloc: Global, id: i64, columns: &Columns) -> Result<Rec
     }
 }
 
-/// The record that is made of values, if their text is one of a level. What else of them is of no
-/// record is left out.
+/// Makes a record of values, if their text is that of a level. Any other value that fits no record
+/// is left out.
 fn made(alloc: Global, id: i64, columns: &Columns) -> Result<Option<Record>, Memory>
     ensures id { IfOk result (λ made. IfSome made (λ kept. kept.id ≡ id)) }
     ensures same { IfOk result (λ made. (page : Page) → IsKeptPage page
@@ -75,7 +77,7 @@ fn made(alloc: Global, id: i64, columns: &Columns) -> Result<Option<Record>, Mem
     }))
 }
 
-/// The level of which this is the canonical text, if it is one.
+/// Returns the level of which this is the canonical text, if it is one.
 fn level_in(alloc: Global, text: &[u8]) -> Result<Option<Level>, Memory>
     ensures { IfOk result (λ level. (rows : Rows) → IsLevel rows
         → level_text rows ≡ text.now → level ≡ Some rows) }
@@ -89,7 +91,7 @@ fn level_in(alloc: Global, text: &[u8]) -> Result<Option<Level>, Memory>
     }
 }
 
-/// The first level of a text.
+/// Returns the first level of a text.
 fn first_level(alloc: Global, text: &[u8]) -> Result<Level, LevelFault>
     ensures { (result ≡ Err fault.Memory) ⊎ (result ≡ level_at (blocks_of text.now) 1) }
 {
@@ -109,7 +111,7 @@ fn copy(alloc: Global, title: &Option<Vec<u8>>) -> Result<Option<Vec<u8>>, Alloc
     }
 }
 
-/// The best solution that is made of values.
+/// Makes the best solution of these values.
 fn best_in(alloc: Global, columns: &Columns) -> Result<Option<Best>, Memory>
     ensures { IfOk result (λ best. (page : Page) → IsKeptPage page
         → columns.now ≡ leaf_of page → best ≡ page.best) }
@@ -124,7 +126,7 @@ fn best_in(alloc: Global, columns: &Columns) -> Result<Option<Best>, Memory>
     }
 }
 
-/// The letters that a text spells, and none where it spells no letters.
+/// Returns the letters that a text spells, and no letters if it spells none.
 fn letters_in(alloc: Global, text: &[u8]) -> Result<Vec<Dir>, Memory>
     ensures { IfOk result (λ found. (letters : List Dir)
         → Spells text.now letters → found.items ≡ letters) }
@@ -138,7 +140,7 @@ fn letters_in(alloc: Global, text: &[u8]) -> Result<Vec<Dir>, Memory>
     }
 }
 
-/// The verdict for which a number stands.
+/// Returns the verdict for which a number stands.
 fn verdict_of(number: u32) -> Verdict
     ensures { (verdict : Verdict) → verdict_number verdict ≡ number → result ≡ verdict }
 {
@@ -149,18 +151,18 @@ fn verdict_of(number: u32) -> Verdict
     }
 }
 
-/// Whether a record may be kept.
+/// Returns whether a record may be kept.
 fn may_be_kept(alloc: Global, kept: &Record) -> Result<bool, Memory>
     ensures { IfOk result (λ may. IsTrue may ↔ IsKeptPage kept.now.page) }
 {
-    // A level tells with its rows that it is one.
+    // The contract of `rows` says that this is a level.
     let _rows = kept.level.rows();
     let accepted = is_accepted(alloc, &kept.level)?;
     let solved = is_solved(alloc, &kept.level, &kept.best)?;
     Ok(accepted && is_kept(&kept.title) && solved && may_stand(kept.best.is_some(), kept.verdict))
 }
 
-/// Whether a board can be made of a level.
+/// Returns whether a board can be made of a level.
 fn is_accepted(alloc: Global, level: &Level) -> Result<bool, Memory>
     ensures { IfOk result (λ accepted. IsTrue accepted ↔ IsAcceptable level.now) }
 {
@@ -173,7 +175,7 @@ fn is_accepted(alloc: Global, level: &Level) -> Result<bool, Memory>
     }
 }
 
-/// Whether a title, if there is one, is as it would be kept.
+/// Returns whether a title, if there is one, is as it would be kept.
 fn is_kept(title: &Option<Vec<u8>>) -> bool
     ensures { IsTrue result ↔ IfSome (option_map (λ title. title.items) title.now) IsTitle }
 {
@@ -183,7 +185,7 @@ fn is_kept(title: &Option<Vec<u8>>) -> bool
     }
 }
 
-/// Whether a best, if there is one, is a solution that may be kept.
+/// Returns whether a best solution, if there is one, may be kept.
 fn is_solved(alloc: Global, level: &Level, best: &Option<Best>) -> Result<bool, Memory>
     ensures { IfOk result (λ solved.
         IsTrue solved ↔ IfSome best.now (IsKeptSolution level.now)) }
@@ -194,7 +196,7 @@ fn is_solved(alloc: Global, level: &Level, best: &Option<Best>) -> Result<bool, 
     }
 }
 
-/// Whether letters with their numbers are a solution that may be kept.
+/// Returns whether letters with these numbers are a solution that may be kept.
 fn is_solution(alloc: Global, level: &Level, best: &Best) -> Result<bool, Memory>
     ensures { IfOk result (λ solves. IsTrue solves ↔ IsKeptSolution level.now best.now) }
 {
@@ -209,7 +211,7 @@ fn is_solution(alloc: Global, level: &Level, best: &Best) -> Result<bool, Memory
     }
 }
 
-/// Whether a verdict may stand where there is a best solution, or where there is none.
+/// Returns whether a level with a best solution, or without one, may have this verdict.
 fn may_stand(best: bool, verdict: Verdict) -> bool
     ensures { result ≡ may_stand best verdict }
 {

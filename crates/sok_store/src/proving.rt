@@ -1,4 +1,4 @@
-//! A verdict is proved.
+//! Proving a verdict.
 
 ghost use Rattle.std.specs.Prelude.{◌≡◌, ◌⊎◌, ◌<◌, IfErr, IfOk};
 ghost use Rattle.sqlite.specs.Held.{state};
@@ -18,7 +18,7 @@ use sok_cert::claim::Claim;
 use sqlite::{Alter, Connection};
 use std::alloc::Global;
 
-/// Proves the verdict of the level with an id.
+/// Proves the verdict of the level with this id.
 pub(crate) fn prove_to<S: Alter>(
     conn: &mut Connection<S>,
     alloc: Global,
@@ -34,7 +34,7 @@ pub(crate) fn prove_to<S: Alter>(
     }
 }
 
-/// Proves the verdict of the level with an id.
+/// Does so with an id that may be one of a level.
 fn prove_at<S: Alter>(
     conn: &mut Connection<S>,
     alloc: Global,
@@ -59,7 +59,7 @@ fn prove_at<S: Alter>(
     }
 }
 
-/// The claim that bytes show of a level and its best solution.
+/// Returns the claim that a certificate proves of a level and its best solution.
 fn judge_record(alloc: Global, kept: &Record, bytes: &[u8]) -> Result<Claim, BookFault>
     ensures certificate { IfOk result (IsCertificate kept.now.page.level bytes.now) }
     ensures meets { IfOk result (λ claim. Meets claim (best_pushes kept.now.page)) }
@@ -73,7 +73,7 @@ fn judge_record(alloc: Global, kept: &Record, bytes: &[u8]) -> Result<Claim, Boo
     judge_proof(alloc, &board, pushes_of(kept), bytes)
 }
 
-/// The pushes of the best solution, if there is one.
+/// Returns the pushes of the best solution, if there is one.
 pub(crate) fn pushes_of(kept: &Record) -> Option<u64>
     ensures { result ≡ best_pushes kept.now.page }
 {
@@ -83,7 +83,7 @@ pub(crate) fn pushes_of(kept: &Record) -> Option<u64>
     }
 }
 
-/// The verdict that a claim is.
+/// Returns the verdict that a claim states.
 pub(crate) fn verdict_of(claim: Claim) -> Verdict
     ensures { result ≡ verdict_of claim }
 {

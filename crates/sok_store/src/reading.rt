@@ -1,4 +1,4 @@
-//! One level of the book, as its row stands in the table.
+//! Reading one level of the book.
 
 ghost use Rattle.std.specs.Prelude.{◌≡◌, ◌<◌, ◌≤◌, IsNone, MatchOption, length};
 ghost use Rattle.sqlite.specs.Held.{state};
@@ -15,7 +15,7 @@ use sok_sql::reading::row_at;
 use sqlite::{Alter, Connection};
 use std::alloc::Global;
 
-/// The level with an id.
+/// Returns the level with this id. `NoLevel` if there is none.
 pub(crate) fn record_at<S: Alter>(
     conn: &mut Connection<S>,
     alloc: Global,
@@ -30,7 +30,7 @@ pub(crate) fn record_at<S: Alter>(
     }
 }
 
-/// A number that may be the id of a level.
+/// Returns the id as a `u32` if a level may have it.
 pub(crate) fn place_of(id: i64) -> Option<u32>
     ensures { MatchOption result
         ((book : Book) → length book ≤ level_limit → IsNone (page_at book (id_number id)))
@@ -42,7 +42,7 @@ pub(crate) fn place_of(id: i64) -> Option<u32>
     }
 }
 
-/// The level with an id.
+/// Returns the level with this id, which may be one of a level.
 pub(crate) fn read_record<S: Alter>(
     conn: &mut Connection<S>,
     alloc: Global,

@@ -24,10 +24,11 @@ use sqlite::Row;
 use std::alloc::Global;
 use std::collections::BTreeSet;
 
-/// The records of all rows, in order of their ids. Refused is, as `BadBook` with the id of the
-/// first row that cannot follow those before it, a table that is not exactly that of a book: its
-/// ids count from 1 without a gap, each row is that of a page that may be kept, no level stands
-/// there twice, and there are at most 10,000.
+/// Returns the records of all rows, in order of their ids.
+///
+/// Errors: `BadBook` with the id of the first row that can't follow those before it, if the table
+/// is not exactly that of a book. In a book the ids count from 1 without a gap, each row holds a
+/// page that may be kept, no level occurs twice, and there are at most 10,000. Or `Memory`.
 pub(crate) fn records_of(alloc: Global, rows: &[Row]) -> Result<Vec<Record>, BookFault>
     ensures read { IfOk result (λ records. (book : Book) × IsKeptBook book
         × (rows.now ≡ shown_from 1 (leaves_of book)) × AreRecordsOf book records.items) }
@@ -45,7 +46,7 @@ pub(crate) fn records_of(alloc: Global, rows: &[Row]) -> Result<Vec<Record>, Boo
     Ok(records)
 }
 
-/// Reads one row more, with the texts of the levels before it.
+/// Reads the next row; `texts` has the texts of the levels before it.
 fn read_next(
     alloc: Global,
     records: &mut Vec<Record>,
@@ -69,7 +70,7 @@ fn read_next(
     }
 }
 
-/// Adds the record of a row at a place, if there is room and its text is new.
+/// Appends the record of the row at `place`, if there is room and its text is new.
 fn add_record(
     alloc: Global,
     records: &mut Vec<Record>,
@@ -96,7 +97,7 @@ fn add_record(
     }
 }
 
-/// Whether the text of a level is not there yet. It is there afterwards.
+/// Returns whether the text of a level is not in `texts` yet, and inserts it.
 fn is_new(alloc: Global, texts: &mut BTreeSet<String>, level: &Level) -> Result<bool, BookFault>
     ensures test { IfOk result
         (λ new. new ≡ not (contains_text texts.old (level_text level.now))) }

@@ -16,7 +16,7 @@ use sok_book::fault::BookFault;
 use sqlite::types::FromSql;
 use sqlite::{Error, ErrorCode, Row};
 
-/// The value in a column, if it is one of this type.
+/// Returns the value in a column, if it has this type.
 fn value_in<T: FromSql>(row: &Row, at: usize) -> Result<Option<T>, BookFault>
     requires { at < length row.now }
     ensures ok { IfOk result (λ o. MatchOption o (¬ T.FromSql.is_readable (column row.now at))
@@ -30,7 +30,7 @@ fn value_in<T: FromSql>(row: &Row, at: usize) -> Result<Option<T>, BookFault>
     }
 }
 
-/// The text or the NULL in a column.
+/// Returns the text or the NULL in a column, if it holds one.
 fn words_in(row: &Row, at: usize) -> Result<Option<Option<String>>, BookFault>
     requires { at < length row.now }
     ensures ok { IfOk result (λ o. MatchOption o
@@ -41,7 +41,7 @@ fn words_in(row: &Row, at: usize) -> Result<Option<Option<String>>, BookFault>
     value_in(row, at)
 }
 
-/// The bytes or the NULL in a column.
+/// Returns the bytes or the NULL in a column, if it holds one.
 fn bytes_in(row: &Row, at: usize) -> Result<Option<Option<Vec<u8>>>, BookFault>
     requires { at < length row.now }
     ensures ok { IfOk result (λ o. MatchOption o
@@ -52,7 +52,7 @@ fn bytes_in(row: &Row, at: usize) -> Result<Option<Option<Vec<u8>>>, BookFault>
     value_in(row, at)
 }
 
-/// The number or the NULL in a column.
+/// Returns the number or the NULL in a column, if it holds one.
 fn number_in(row: &Row, at: usize) -> Result<Option<Option<u32>>, BookFault>
     requires { at < length row.now }
     ensures ok { IfOk result (λ o. MatchOption o
@@ -64,7 +64,7 @@ fn number_in(row: &Row, at: usize) -> Result<Option<Option<u32>>, BookFault>
     value_in(row, at)
 }
 
-/// The id of a row, or its place where that is no whole number.
+/// Returns the id of a row, or its place if the id is no whole number.
 pub(crate) fn id_in(place: u32, row: &Row) -> Result<i64, BookFault>
     ensures ok { IfOk result (λ id. id ≡ id_or_place place (column row.now 0)) }
     ensures fits { IfOk result (λ id. FitsSigned w64 id) }
@@ -80,7 +80,7 @@ pub(crate) fn id_in(place: u32, row: &Row) -> Result<i64, BookFault>
     }
 }
 
-/// The values of a row that has the id of its place.
+/// Returns the values of a row, if its id is its place.
 pub(crate) fn columns_in(place: u32, row: &Row) -> Result<Option<Columns>, BookFault>
     ensures some { IfOk result (λ o. IfSome o
         (λ columns. row.now ≡ shown place columns)) }

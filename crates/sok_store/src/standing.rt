@@ -1,4 +1,4 @@
-//! What is told of an offer.
+//! The answer to an offer.
 
 use sok_book::record::Offer;
 

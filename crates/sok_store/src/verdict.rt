@@ -1,4 +1,4 @@
-//! A verdict is set by a claim that is known to be true.
+//! Setting a verdict by a claim that is known to be true.
 
 ghost use Rattle.std.specs.Prelude.{◌≡◌, ◌⊎◌, ◌<◌, ◌↔◌, IfErr, IfOk, IsTrue, OnOk};
 ghost use Rattle.sqlite.specs.Held.{state};
@@ -20,7 +20,7 @@ use sok_rules::level::Level;
 use sqlite::{Alter, Connection};
 use std::alloc::Global;
 
-/// Sets the verdict of the level with an id by a claim that is known to be true.
+/// Sets the verdict of the level with this id by a claim that is known to be true.
 pub(crate) fn set_verdict_to<S: Alter>(
     conn: &mut Connection<S>,
     alloc: Global,
@@ -38,7 +38,7 @@ pub(crate) fn set_verdict_to<S: Alter>(
     }
 }
 
-/// The same at an id that may be one.
+/// Does so with an id that may be one of a level.
 fn set_verdict_at<S: Alter>(
     conn: &mut Connection<S>,
     alloc: Global,
@@ -61,8 +61,8 @@ fn set_verdict_at<S: Alter>(
     }
 }
 
-/// Whether a claim on a level is one on a level of a book: it is the same level, and the claim is
-/// about its best solution.
+/// Checks that a claim on `level` applies to a level of the book: `NoLevel` if that is another
+/// level, `ClaimDiffers` if the claim does not fit its best solution.
 fn judge_claim(alloc: Global, kept: &Record, level: &Level, claim: Claim) -> Result<(), BookFault>
     ensures same { OnOk result (kept.now.page.level ≡ level.now) }
     ensures meets { OnOk result (Meets claim (best_pushes kept.now.page)) }
@@ -82,11 +82,11 @@ fn judge_claim(alloc: Global, kept: &Record, level: &Level, claim: Claim) -> Res
     Ok(())
 }
 
-/// Whether two levels are the same, by their canonical texts.
+/// Returns whether two levels are the same, by their canonical texts.
 fn is_same(alloc: Global, level: &Level, other: &Level) -> Result<bool, Memory>
     ensures { IfOk result (λ same. IsTrue same ↔ level.now ≡ other.now) }
 {
-    // A level tells with its rows that it is one.
+    // The contract of `rows` says that these are levels.
     let _rows = level.rows();
     let _other_rows = other.rows();
     let text = text_of(alloc, level)?;
@@ -94,8 +94,8 @@ fn is_same(alloc: Global, level: &Level, other: &Level) -> Result<bool, Memory>
     Ok(text.as_bytes() == other_text.as_bytes())
 }
 
-/// Whether a claim is about the best solution: it has as many pushes as are claimed, or there is
-/// none and none is to be.
+/// Returns whether a claim fits the best solution: it states the same number of pushes; or it
+/// states that there is no solution, and there is no best one.
 fn is_about(claim: Claim, best: Option<u64>) -> bool
     ensures { IsTrue result ↔ Meets claim best }
 {

@@ -1,4 +1,4 @@
-//! What a command writes of a level of the book.
+//! Writing the changes of a level of the book.
 
 ghost use Rattle.sqlite.specs.Held.{state};
 ghost use Rattle.sok_store.specs.Changing.{HasBest, HasVerdict};
@@ -11,7 +11,7 @@ use sok_book::record::Verdict;
 use sok_sql::writing::{set_best, set_verdict};
 use sqlite::{Alter, Connection};
 
-/// Makes a solution the best of the level with an id.
+/// Makes a solution the best one of the level with this id.
 pub(crate) fn store_best<S: Alter>(
     conn: &mut Connection<S>,
     id: u32,
@@ -26,7 +26,7 @@ pub(crate) fn store_best<S: Alter>(
     }
 }
 
-/// Sets the verdict of the level with an id.
+/// Sets the verdict of the level with this id.
 pub(crate) fn store_verdict<S: Alter>(
     conn: &mut Connection<S>,
     id: u32,

@@ -11,7 +11,7 @@ use std::alloc::Global;
 use std::process::Abort;
 use std::test::Fail;
 
-/// Whether the square of a number lies at a row and a column.
+/// Returns whether the square with a number is at a row and a column.
 fn lies(board: &Board, number: usize, row: u32, col: u32) -> bool {
     if number >= board.squares() {
         return false;
@@ -20,7 +20,7 @@ fn lies(board: &Board, number: usize, row: u32, col: u32) -> bool {
     board.square(spot) == Some(number as Sq) && board.spot(number as Sq) == spot
 }
 
-/// Whether the squares of a board lie at these rows and columns, in order.
+/// Returns whether the squares of a board are at these rows and columns, in order.
 fn has_squares(alloc: Global, text: &str, squares: &[(u32, u32)]) -> Result<bool, Fail> {
     let board = board(alloc, text)?;
     for (number, (row, col)) in squares.iter().enumerate() {
@@ -73,7 +73,7 @@ fn squares_of_boards(rt: HostRuntime) -> Result<(), Fail> {
     Ok(())
 }
 
-/// Whether a board has its player on a square, and these boxes and goals.
+/// Returns whether a board has its player on a square, and these boxes and goals.
 fn starts(alloc: Global, text: &str, player: Sq, boxes: &[Sq], goals: &[Sq]) -> Result<bool, Fail> {
     let board = board(alloc, text)?;
     Ok(board.start() == (player, boxes) && board.goals() == goals)
@@ -94,7 +94,7 @@ fn starts_of_boards(rt: HostRuntime) -> Result<(), Fail> {
     Ok(())
 }
 
-/// What lies beside the first square of a board.
+/// Returns the square beside the first square of a board, if there is one.
 fn beside_the_first(board: &Board, dir: Dir) -> Option<Sq> {
     if board.squares() == 0 {
         return None;
@@ -116,7 +116,7 @@ fn squares_beside(rt: HostRuntime) -> Result<(), Fail> {
     Ok(())
 }
 
-/// Whether a spot of a level is none of its board's squares, and has this cell.
+/// Returns whether a spot of a level is no square of its board, and has this cell.
 fn lies_outside(board: &Board, row: u32, col: u32, cell: Option<Cell>) -> bool {
     let spot = Spot { row, col };
     board.square(spot).is_none() && board.level().cell(spot) == cell
@@ -135,7 +135,7 @@ fn spots_outside(rt: HostRuntime) -> Result<(), Fail> {
     Ok(())
 }
 
-/// How many squares a board has, or why there is none, with the number of the fault.
+/// The number of squares of a board, or its fault with the fault's number.
 type Told = Result<usize, (BoardFault, u8)>;
 
 fn told(alloc: Global, text: &str) -> Result<Told, Fail> {
@@ -146,10 +146,10 @@ fn told(alloc: Global, text: &str) -> Result<Told, Fail> {
     }
 }
 
-/// Why there is no board of the level that is open at the side.
+/// The fault of the level that is open at the side.
 const OPEN: BoardFault = BoardFault::NotEnclosed(Spot { row: 1, col: 3 });
 
-/// And why there is none of the level with a box outside.
+/// The fault of the level with a box outside.
 const STRAY: BoardFault = BoardFault::BoxOutside(Spot { row: 1, col: 5 });
 
 #[test]
@@ -164,7 +164,7 @@ fn refused_levels(rt: HostRuntime) -> Result<(), Fail> {
     Ok(())
 }
 
-/// Asserts how many squares the board of a room has, or why there is none.
+/// Asserts how many squares the board of a room has, or its fault.
 fn assert_told(rt: &impl Abort, alloc: Global, room: &Room, count: Told) -> Result<(), Fail> {
     let text = room.text(alloc)?;
     assert!(rt; told(alloc, text.as_str())? == count);

@@ -1,4 +1,4 @@
-//! Prices as a reason, and pushes that are spent.
+//! Dual prices as a reason, and spent pushes as one.
 
 use crate::positions::{
     IN_THE_ROOM, ON_THE_GOAL, Position, TO_THE_GOAL, TWO_AND_THREE_GOALS, holds,
@@ -33,7 +33,7 @@ fn no_prices_show_that_there_is_no_solution(rt: HostRuntime) -> Result<(), Fail>
 
 const AFTER_A_PUSH: Position<'_> = (sketch::CORRIDOR_OF_SIX_PUSHES, &[7], 6);
 
-/// How many pushes are to be shown, prices of boxes and of goals, and whether they show it.
+/// A number of pushes, prices of boxes and of goals, and whether these show as many pushes.
 type Case<'a> = (u32, &'a [u32], &'a [u32], bool);
 
 const ON_TWO_AND_THREE_GOALS: [Case<'_>; 9] = [
@@ -42,12 +42,12 @@ const ON_TWO_AND_THREE_GOALS: [Case<'_>; 9] = [
     (2, &[1, 1], &[1, 0, 0], false),
     (2, &[2, 2], &[0, 1, 1], true),
     (3, &[2, 2], &[0, 1, 1], false),
-    // lists of other lengths
+    // lists with other lengths
     (0, &[1], &[0, 0, 0], false),
     (0, &[1, 1], &[0, 0], false),
     (0, &[1, 1], &[0, 0, 0, 0], false),
     (0, &[], &[], false),
-    // prices whose sums do not fit a price
+    // prices whose sums are too large for a price
     (
         0,
         &[u32::MAX, u32::MAX],
@@ -56,10 +56,10 @@ const ON_TWO_AND_THREE_GOALS: [Case<'_>; 9] = [
     ),
 ];
 
-/// A price of the distance, and one above it.
+/// A price that is the distance, and one that is greater.
 const ON_AFTER_A_PUSH: [Case<'_>; 2] = [(4, &[4], &[0], true), (4, &[5], &[0], false)];
 
-/// Asserts whether prices of a position show so many pushes.
+/// Asserts whether prices show so many pushes for a position.
 fn assert_bound(
     rt: &impl Abort,
     alloc: Global,
@@ -73,7 +73,7 @@ fn assert_bound(
     Ok(())
 }
 
-/// Asks of prices of a position whether they show so many pushes.
+/// Asserts for each case whether its prices show its pushes for a position.
 fn ask(
     rt: &impl Abort,
     alloc: Global,

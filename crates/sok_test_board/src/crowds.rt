@@ -14,14 +14,14 @@ type Case<'a> = (&'a [u32], bool);
 const FOR_ONE_GOAL: [Case<'_>; 6] = [
     (&[0], false),
     (&[0, 1], true),
-    // numbers that fall, that stay, that are no indices, and none at all
+    // numbers that fall, that repeat, that are no indices, and none at all
     (&[1, 0], false),
     (&[0, 0], false),
     (&[0, 1, 2], false),
     (&[], false),
 ];
 
-/// Asserts whether members of a position are a crowd, where this is to be shown.
+/// Asserts whether members of a position are a crowd, as a reason for `rest`.
 fn assert_crowd(
     rt: &impl Abort,
     alloc: Global,
@@ -35,7 +35,7 @@ fn assert_crowd(
     Ok(())
 }
 
-/// Asks of members of a position whether they are a crowd.
+/// Asserts for each case whether its members are a crowd.
 fn ask(
     rt: &impl Abort,
     alloc: Global,
@@ -57,7 +57,7 @@ fn members_of_crowds(rt: HostRuntime) -> Result<(), Fail> {
     ask(&rt, rt.alloc(), TWO_AND_THREE_GOALS, &[(&[0, 1], false)])
 }
 
-/// The box alone, on a square from which it comes to the goal or does not.
+/// The box alone, on a square from which it reaches the goal or does not.
 const ALONE: [(Position<'_>, bool); 4] = [
     ((sketch::CORRIDOR_OF_SIX_PUSHES, &[8], 7), true),
     ((sketch::CORRIDOR_OF_SIX_PUSHES, &[1], 7), true),

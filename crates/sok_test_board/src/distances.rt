@@ -10,7 +10,7 @@ use sok_sketch::{rooms, sketch};
 use std::alloc::Global;
 use std::test::Fail;
 
-/// Whether a square has a distance to a goal, which is told by its place.
+/// Returns whether a square has this distance to a goal, which is given by its index.
 fn tells(board: &Board, distances: &Distances, goal: usize, square: Sq, pushes: Option<u16>) -> bool
     requires { distances.now.board ≡ board.now }
 {
@@ -20,7 +20,7 @@ fn tells(board: &Board, distances: &Distances, goal: usize, square: Sq, pushes: 
     distances.dist(goal, square) == pushes
 }
 
-/// Whether it has so on the board of a text.
+/// Does the same on the board of a text.
 fn tells_of(
     alloc: Global,
     text: &str,
@@ -55,7 +55,7 @@ fn distances_to_goals(rt: HostRuntime) -> Result<(), Fail> {
     Ok(())
 }
 
-/// Whether some squares of a board are stuck, and no others.
+/// Returns whether these squares of a board are stuck, and no others.
 fn are_stuck(board: &Board, distances: &Distances, stuck: &[Sq]) -> bool
     requires { distances.now.board ≡ board.now }
 {
@@ -68,7 +68,7 @@ fn are_stuck(board: &Board, distances: &Distances, stuck: &[Sq]) -> bool
     true
 }
 
-/// Whether they are so on the board of a text.
+/// Does the same on the board of a text.
 fn are_stuck_on(alloc: Global, text: &str, stuck: &[Sq]) -> Result<bool, Fail> {
     let board = board(alloc, text)?;
     let distances = distances(alloc, &board)?;
@@ -89,8 +89,8 @@ fn stuck_squares(rt: HostRuntime) -> Result<(), Fail> {
     Ok(())
 }
 
-/// In the open a box goes as many squares down and across as the goal lies. In the first row and in
-/// the last one it stays there, where no goal is.
+/// Returns whether boxes move freely: the distance to a goal is that of the rows and columns. A box
+/// in the first or the last row stays there, and these rows have no goal.
 fn is_open(board: &Board, distances: &Distances) -> bool
     requires { distances.now.board ≡ board.now }
 {

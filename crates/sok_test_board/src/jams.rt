@@ -17,14 +17,14 @@ type Case<'a> = (&'a [u32], bool);
 const IN_A_ROW: [Case<'_>; 6] = [
     (&[0, 1], true),
     (&[0], false),
-    // numbers that fall, that stay, that are no indices, and none at all
+    // numbers that fall, that repeat, that are no indices, and none at all
     (&[1, 0], false),
     (&[0, 0], false),
     (&[0, 1, 2], false),
     (&[], false),
 ];
 
-/// Asserts whether members of a position are frozen, where this is to be shown.
+/// Asserts whether members of a position are frozen, as a reason for `rest`.
 fn assert_frozen(
     rt: &impl Abort,
     alloc: Global,
@@ -38,7 +38,7 @@ fn assert_frozen(
     Ok(())
 }
 
-/// Asks of members of a position whether they are frozen.
+/// Asserts for each case whether its members are frozen.
 fn ask(
     rt: &impl Abort,
     alloc: Global,
@@ -60,7 +60,7 @@ fn members_that_are_frozen(rt: HostRuntime) -> Result<(), Fail> {
     ask(&rt, rt.alloc(), IN_THE_ROOM, &[(&[0], false)])
 }
 
-/// The members of the jam that is found with a box on a square, None where none is.
+/// Returns the members of the jam that is found with a box on a square, or `None`.
 fn found(
     rt: &impl Abort,
     alloc: Global,
@@ -96,7 +96,7 @@ const JAMMED: [Found<'_>; 4] = [
     (sketch::TWO_OF_THREE_STUCK, &[1, 2, 5], 2, &[0, 1]),
 ];
 
-/// Whether the jam that is found has these members.
+/// Returns whether a jam is found and has these members.
 fn finds(
     rt: &impl Abort,
     alloc: Global,

@@ -4,18 +4,18 @@
 //! | Module | What it tests |
 //! |---|---|
 //! | `boards` | which levels a solver accepts, and their square numbers |
-//! | `bounds` | prices as a reason, and pushes that are spent |
+//! | `bounds` | dual prices as a reason, and spent pushes as one |
 //! | `crowds` | crowds as a reason |
 //! | `distances` | how far a box is from each goal, and where it is stuck |
 //! | `jams` | frozen boxes as a reason, and which are found |
 //! | `matching` | a matching that is kept from one set of boxes to the next |
-//! | `pairs` | pairs of boxes that are never solved, taken alone |
+//! | `pairs` | two or three boxes that can't be solved, even alone |
 //! | `positions` | positions, and whether a reason holds of one (no test) |
-//! | `prices` | which goal each box could go to at the least cost, and crowds |
-//! | `regions` | where the player comes without a push, and by which letters |
-//! | `rounds` | rounds of squares, in rows of words |
+//! | `prices` | minimum assignments of boxes to goals, and crowds |
+//! | `regions` | the squares that the player reaches without a push, and the walks to them |
+//! | `rounds` | rounds of the flood of squares, in rows of words |
 //! | `sets` | sets of boxes |
-//! | `setting` | squares that are there, and boxes and a player on them (no test) |
+//! | `setting` | squares that exist, and boxes and a player on them (no test) |
 //! | `states` | the states of a level, and their pushes |
 //! | `tables` | tables of states |
 #![tactic(auto)]

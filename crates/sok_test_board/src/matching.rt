@@ -13,7 +13,7 @@ use std::alloc::Global;
 use std::process::Abort;
 use std::test::Fail;
 
-/// Squares of boxes, and the least total of their distances to goals of their own.
+/// Squares of boxes, and the cost of a minimum assignment of these boxes to goals.
 type Set<'a> = (&'a [Sq], Option<u32>);
 
 const SETS: [Set<'_>; 10] = [
@@ -31,7 +31,7 @@ const SETS: [Set<'_>; 10] = [
     (&[8, 10], Some(2)),
 ];
 
-/// Asserts what a matching tells once it is set to boxes on some squares.
+/// Asserts the cost of a matching that is set to boxes on some squares.
 fn assert_set(
     rt: &impl Abort,
     alloc: Global,
@@ -63,7 +63,7 @@ fn set_in_turn(
     Ok(())
 }
 
-/// Boxes that stay, move, come and go; on goals, in a crowd, and more of them than goals.
+/// Boxes that stay, move, come and go; boxes on goals, a crowd, and more boxes than goals.
 #[test]
 fn totals_of_one_set_after_another(rt: HostRuntime) -> Result<(), Fail> {
     let text = sketch::TWO_BOXES_AND_THREE_GOALS;

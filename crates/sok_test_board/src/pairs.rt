@@ -1,4 +1,4 @@
-//! Two or three boxes that are never solved, taken alone.
+//! Two or three boxes that can't be solved, even alone.
 
 ghost use Rattle.std.specs.Prelude.{OnOk};
 ghost use Rattle.sok_alone.specs.Losses.{KeepsLosses};
@@ -14,20 +14,20 @@ use std::alloc::Global;
 use std::process::Abort;
 use std::test::Fail;
 
-/// Two boxes, a limit, and how many positions of them alone are listed, if they are never solved.
+/// Two boxes, a limit, and how many positions of them alone are listed, if they can't be solved.
 type Case = (Sq, Sq, u32, Option<usize>);
 
 const CASES: [Case; 5] = [
-    // the first push brings the box on 10 to stand before that on 12, for ever
+    // the first push brings the box on 10 before the one on 12, and it stays there
     (10, 12, 2, Some(2)),
     (10, 12, 1000, Some(2)),
     (10, 12, 1, None),
-    // the box on 7 comes to 16, and that on 10 to 13
+    // the box on 7 reaches 16, and the one on 10 reaches 13
     (7, 10, 1000, None),
     (7, 12, 1000, None),
 ];
 
-/// How many positions the pattern of two boxes has, if there is one.
+/// Returns how many positions the pattern of two boxes has, if there is one.
 fn positions(
     rt: &impl Abort,
     alloc: Global,
@@ -45,7 +45,7 @@ fn positions(
     }
 }
 
-/// Asserts of each two boxes how many positions of them alone are listed.
+/// Asserts for each two boxes how many positions of them alone are listed.
 fn ask_each(rt: &impl Abort, alloc: Global, setting: &Setting<'_>) -> Result<(), Fail> {
     for &(first, second, limit, answer) in &CASES {
         let found = positions(rt, alloc, setting, first, second, limit)?;
@@ -63,18 +63,18 @@ fn two_boxes_alone(rt: HostRuntime) -> Result<(), Fail> {
     ask_each(&rt, alloc, &setting)
 }
 
-/// Boxes, one of them, a direction in which it is pushed, the square to which it comes, and whether
-/// it and another box, or two that stand close, are never solved from there, were they alone.
+/// Boxes, one of them, the direction in which it is pushed, the square that it reaches, and whether
+/// it can't be solved from there with another box, or with two that are close, even alone.
 type PushCase = ([Sq; 3], Sq, Dir, Sq, bool);
 
 const PUSHES_OF_TWO: [PushCase; 6] = [
     // two boxes that follow one another into the corridor
     ([7, 9, 12], 9, Dir::Right, 10, true),
     ([7, 10, 12], 10, Dir::Right, 11, true),
-    // the player has gone round them
+    // the player has gone around them
     ([7, 11, 12], 11, Dir::Left, 10, false),
     ([6, 7, 12], 7, Dir::Right, 8, false),
-    // the two that are lost are not those of which one is pushed
+    // the two lost boxes are not those of which one is pushed
     ([7, 10, 12], 7, Dir::Left, 6, false),
     ([7, 9, 12], 7, Dir::Left, 6, false),
 ];
@@ -84,11 +84,11 @@ const PUSHES_OF_THREE: [PushCase; 4] = [
     // the goal below is free, or can be left
     ([6, 15, 16], 6, Dir::Left, 5, false),
     ([6, 14, 16], 6, Dir::Left, 5, false),
-    // the box comes down onto another goal
+    // the box reaches another goal
     ([6, 14, 15], 6, Dir::Right, 7, false),
 ];
 
-/// Whether nothing solves after a push, by the box that is pushed and one or two others.
+/// Returns whether the pushed box and one or two others are lost after the push.
 fn is_lost(
     rt: &impl Abort,
     alloc: Global,
@@ -108,7 +108,7 @@ fn is_lost(
     Ok(place.is_some())
 }
 
-/// Asks each push twice of the same losses.
+/// Asks the same losses for each push twice.
 fn ask_twice(
     rt: &impl Abort,
     alloc: Global,
@@ -122,8 +122,8 @@ fn ask_twice(
     asked
 }
 
-/// The same by losses that are borrowed, since a proof lays out the drop of owned ones at each way
-/// out.
+/// Does the same with borrowed losses, since a proof would treat the drop of owned ones at each
+/// exit.
 fn ask_by(
     rt: &impl Abort,
     alloc: Global,

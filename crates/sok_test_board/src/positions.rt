@@ -36,7 +36,7 @@ pub(crate) const TWO_AND_THREE_GOALS: Position<'_> = (
     0,
 );
 
-/// The set of boxes on some squares of a board, which rise.
+/// Returns the set of boxes on some squares of a board, which must rise.
 pub(crate) fn boxes_on(
     rt: &impl Abort,
     alloc: Global,
@@ -49,7 +49,7 @@ pub(crate) fn boxes_on(
     box_set(alloc, squares)
 }
 
-/// Whether a reason holds, through the trait alone.
+/// Returns whether a reason holds, through the trait alone.
 pub(crate) fn holds<B: Bar>(
     rt: &impl Abort,
     alloc: Global,

@@ -1,4 +1,4 @@
-//! Which goal each box could go to at the least cost, and crowds.
+//! Minimum assignments of boxes to goals, and crowds.
 
 ghost use Rattle.std.specs.Prelude.{◌≤◌, ◌<◌, All, length};
 ghost use Rattle.std.specs.List.Sorted.{IsStrictlyIncreasing};
@@ -13,7 +13,7 @@ use sok_sketch::{rooms, sketch};
 use std::alloc::Global;
 use std::test::Fail;
 
-/// What is found of the boxes of a level where they start.
+/// Returns what is found for the boxes of a level at their start.
 fn assigned(alloc: Global, text: &str) -> Result<Match, Fail> {
     let board = board(alloc, text)?;
     let distances = distances(alloc, &board)?;
@@ -30,20 +30,20 @@ fn assigned_on(alloc: Global, distances: &Distances, squares: &[Sq]) -> Result<M
     Ok(assign(alloc, distances, &boxes)?)
 }
 
-/// A level, the least total, the goals of the boxes, and the count of all goals.
+/// A level, the minimum cost, the goals of the boxes, and the number of all goals.
 type Priced<'a> = (&'a str, u32, &'a [usize], usize);
 
 const LEAST: [Priced<'_>; 4] = [
     (sketch::ONE_PUSH, 1, &[0], 1),
-    // six pushes, of which two are seen without the player
+    // the level takes six pushes; without the player, two are seen
     (sketch::CORRIDOR_OF_SIX_PUSHES, 2, &[0], 1),
     // the boxes are 2, 1, 3 and 4, 1, 1 pushes from the goals
     (sketch::TWO_BOXES_AND_THREE_GOALS, 2, &[1, 2], 3),
-    // the first box is one push from the second goal; then the other box would need 6
+    // if the first box takes the goal one push away, the other box needs 6
     (sketch::NEAREST_GOAL_NEEDED_BY_ANOTHER, 5, &[0, 1], 2),
 ];
 
-/// Whether what is found is an assignment of this total, to these goals of so many.
+/// Returns whether an assignment with this cost was found, to these goals of so many.
 fn is_priced(found: Match, least: u32, goals: &[usize], all: usize) -> bool {
     match found {
         Match::Prices {
@@ -75,7 +75,7 @@ const CROWDS: [(&str, &[u32]); 2] = [
     (sketch::TWO_BOXES_FOR_ONE_GOAL, &[0, 1]),
 ];
 
-/// Whether what is found is a crowd of these boxes.
+/// Returns whether a crowd of these boxes was found.
 fn is_crowd(found: Match, crowd: &[u32]) -> bool {
     match found {
         Match::Crowd { members } => members.as_slice() == crowd,
@@ -92,7 +92,7 @@ fn crowds(rt: HostRuntime) -> Result<(), Fail> {
     Ok(())
 }
 
-/// Whether what is found is an assignment of 128 boxes to 128 goals, of this total.
+/// Returns whether an assignment of 128 boxes to 128 goals with this cost was found.
 fn is_priced_throughout(found: Match, least: u32) -> bool {
     match found {
         Match::Prices {
@@ -105,8 +105,8 @@ fn is_priced_throughout(found: Match, least: u32) -> bool {
     }
 }
 
-/// In each of the 32 columns the boxes go up by 16 squares in all, and no push is worth more than
-/// one row.
+/// In each of the 32 columns the boxes go up by 16 squares in all, and no push gains more than one
+/// row.
 #[test]
 fn room_of_128_boxes_and_128_goals(rt: HostRuntime) -> Result<(), Fail> {
     let text = rooms::ROOM_OF_128_BOXES_BELOW_GOALS.text(rt.alloc())?;

@@ -1,4 +1,4 @@
-//! Where the player comes without a push, and by which letters.
+//! The squares that the player reaches without a push, and the walks to them.
 
 ghost use Rattle.std.specs.Prelude.{IfOk};
 ghost use Rattle.sok_region.specs.Regions.{IsRegionOf};
@@ -13,7 +13,7 @@ use std::alloc::Global;
 use std::process::Abort;
 use std::test::Fail;
 
-/// The region of a player among the boxes of a board's start.
+/// Returns the region of a player among the boxes of a board's start.
 pub(crate) fn region(
     rt: &impl Abort,
     alloc: Global,
@@ -27,7 +27,7 @@ pub(crate) fn region(
     Ok(Region::of(alloc, board, &boxes, player)?)
 }
 
-/// Whether a region has some squares and no others, the first of which is its least.
+/// Returns whether a region has these squares and no others. The first of them must be its least.
 fn has_only(region: &Region, squares: &[Sq]) -> bool {
     for square in 0..1024 {
         if region.has(square) != squares.contains(&square) {
@@ -37,7 +37,7 @@ fn has_only(region: &Region, squares: &[Sq]) -> bool {
     squares.first() == Some(&region.least())
 }
 
-/// Whether the region on the board of a text has some squares and no others.
+/// Does the same for the region on the board of a text.
 fn has_only_on(
     rt: &impl Abort,
     alloc: Global,
@@ -69,7 +69,7 @@ fn squares_of_regions(rt: HostRuntime) -> Result<(), Fail> {
     Ok(())
 }
 
-/// Whether a walk of the region of a board's start is so.
+/// Returns whether a walk in the region of a board's start has these letters, or does not exist.
 fn walks(
     rt: &impl Abort,
     alloc: Global,
@@ -85,7 +85,7 @@ fn walks(
     Ok(walk.as_deref() == letters)
 }
 
-/// A walk of a region.
+/// Returns a walk in a region, if there is one.
 fn walk(
     alloc: Global,
     board: &Board,
@@ -98,7 +98,7 @@ fn walk(
     Ok(region.walk(alloc, board, from, to)?)
 }
 
-/// Around the box of a room.
+/// The walk around the box of a room.
 const AROUND: &[Dir] = &[Dir::Up, Dir::Left, Dir::Left, Dir::Down];
 
 #[test]
@@ -118,7 +118,7 @@ fn walks_in_regions(rt: HostRuntime) -> Result<(), Fail> {
     Ok(())
 }
 
-/// How many letters a walk of a region has.
+/// Returns how many letters a walk in a region has, if there is one.
 fn length(
     alloc: Global,
     board: &Board,
@@ -134,8 +134,9 @@ fn length(
     }
 }
 
-/// Whether no walk from a square has more letters than it needs: the walk to the square itself has
-/// none, and one to a neighbour has at most one more. So each is a shortest one.
+/// Returns whether all walks from a square are shortest ones. The walk to the square itself has no
+/// letters, and the walk to a neighbour of a square has at most one more than the walk to that
+/// square.
 fn are_shortest(alloc: Global, board: &Board, region: &Region, from: Sq) -> Result<bool, Fail>
     requires { IsRegionOf board.now region.now }
 {
@@ -155,7 +156,7 @@ fn are_shortest(alloc: Global, board: &Board, region: &Region, from: Sq) -> Resu
     Ok(length(alloc, board, region, from, from)? == Some(0))
 }
 
-/// Asserts it of each square of a region.
+/// Asserts this for each square of a region.
 fn assert_all_shortest(rt: &impl Abort, alloc: Global, text: &str, player: Sq) -> Result<(), Fail> {
     let board = board(alloc, text)?;
     let region = region(rt, alloc, &board, player)?;

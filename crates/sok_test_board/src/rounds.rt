@@ -1,4 +1,4 @@
-//! Rounds of squares, in rows of words.
+//! Rounds of the flood of squares, in rows of words.
 
 use crate::setting::board;
 use sok_field::drawing::free_squares;
@@ -10,7 +10,7 @@ use std::alloc::Global;
 use std::process::Abort;
 use std::test::Fail;
 
-/// Rows of squares, in words of both halves.
+/// Rows of squares. Each row has a word for its lower half and one for its upper half.
 #[derive(Drop)]
 struct Rows {
     low: Vec<u64>,
@@ -18,7 +18,7 @@ struct Rows {
 }
 
 impl Rows {
-    /// So many rows, each of which is the one before with its squares turned.
+    /// Returns so many rows, each of which is the one before with its words rotated.
     fn turned(alloc: Global, word: u64, by: u32, length: usize) -> Result<Rows, Fail> {
         Ok(Rows {
             low: turned(alloc, word, by, length)?,
@@ -26,7 +26,7 @@ impl Rows {
         })
     }
 
-    /// A row of squares, and none where there is no such row.
+    /// Returns a row of squares, or an empty row if there is no such row.
     fn row(&self, at: Option<usize>) -> u128 {
         match at {
             Some(at) if at < self.low.len() && at < self.high.len() => {
@@ -37,7 +37,7 @@ impl Rows {
     }
 }
 
-/// So many words, each of which is the one before, turned.
+/// Returns so many words, each of which is the one before, rotated.
 fn turned(alloc: Global, mut word: u64, by: u32, length: usize) -> Result<Vec<u64>, Fail> {
     let mut words = Vec::new(alloc);
     for _ in 0..length {
@@ -47,7 +47,7 @@ fn turned(alloc: Global, mut word: u64, by: u32, length: usize) -> Result<Vec<u6
     Ok(words)
 }
 
-/// Asserts that a round finds the free squares on and beside those seen, in each row.
+/// Asserts that a round finds the free squares on and beside the seen ones, in each row.
 fn assert_round(rt: &impl Abort, seen: &Rows, free: &Rows, out: &mut Rows) {
     let length = seen.low.len();
     assert!(rt; seen.high.len() == length);
@@ -84,7 +84,7 @@ fn rounds_of_each_length(rt: HostRuntime) -> Result<(), Fail> {
     Ok(())
 }
 
-/// From the last column of the lower half a round comes into the first one of the upper half.
+/// A round goes from the last column of the lower half into the first one of the upper half.
 #[test]
 fn a_round_across_the_seam(rt: HostRuntime) {
     let free = [u64::MAX];
@@ -94,7 +94,7 @@ fn a_round_across_the_seam(rt: HostRuntime) {
     assert!(rt; low == [13_835_058_055_282_163_712] && high == [1]);
 }
 
-/// The word of a row of squares.
+/// Returns the word of a row of squares.
 fn word(field: &Field, row: u32) -> u64 {
     let mut word = 0;
     for col in 0..64 {
@@ -105,7 +105,7 @@ fn word(field: &Field, row: u32) -> u64 {
     word
 }
 
-/// The words of the rows 1 to 3 of a board's free squares.
+/// Returns the words of the rows 1 to 3 of a board's free squares.
 fn free_words(alloc: Global, text: &str) -> Result<[u64; 3], Fail> {
     let board = board(alloc, text)?;
     let (_, boxes) = board.start();
@@ -124,7 +124,7 @@ fn free_squares_of_the_corridor(rt: HostRuntime) -> Result<(), Fail> {
     Ok(())
 }
 
-/// From the square on each side of the box, round by round until a round changes nothing.
+/// Rounds from the square on each side of the box, until one changes nothing.
 #[test]
 fn rounds_in_the_corridor(rt: HostRuntime) {
     for &(free, seen, after) in &[

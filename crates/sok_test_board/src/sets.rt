@@ -1,4 +1,4 @@
-//! Sets of boxes: a box of them is moved.
+//! Sets of boxes, and moving a box of one.
 
 use crate::setting::board;
 use sok_board::area::Sq;
@@ -8,13 +8,13 @@ use std::alloc::Global;
 use std::process::Abort;
 use std::test::Fail;
 
-/// Whether a copy of a set has the same squares.
+/// Returns whether a copy of a set has the same squares.
 fn copies(alloc: Global, boxes: &[Sq]) -> Result<bool, Fail> {
     let copy = box_set(alloc, boxes)?.copy(alloc)?;
     Ok(copy.list() == boxes)
 }
 
-/// Whether a set begins with some squares after a box is moved, and has as many as before.
+/// Returns whether a set begins with these squares after a box is moved, and has as many as before.
 fn moves(
     rt: &impl Abort,
     alloc: Global,
@@ -30,7 +30,7 @@ fn moves(
     Ok(after.len() == boxes.len() && after.starts_with(front))
 }
 
-/// Whether a board has so many boxes, whose set can be copied and changed.
+/// Returns whether a board has so many boxes, and their set can be copied and changed.
 fn has_boxes(
     rt: &impl Abort,
     alloc: Global,

@@ -1,4 +1,4 @@
-//! Squares that are there, boxes and a player on them, and boards with their distances.
+//! Squares that exist, boxes and a player on them, and boards with their distances.
 
 ghost use Rattle.std.specs.Prelude.{◌≡◌, ◌<◌, ◌↔◌, All, IfOk, IsTrue};
 ghost use Rattle.sok_region.specs.Regions.{IsPlaced};
@@ -13,34 +13,34 @@ use std::alloc::Global;
 use std::process::Abort;
 use std::test::Fail;
 
-/// The board of a drawn level. It is boxed, since a test lets go of a box by one call, and of a board
-/// by one for each of its lists.
+/// Returns the board of a drawn level. It is boxed, since a test frees a box by one call, and a
+/// board by one for each of its lists.
 pub(crate) fn board(alloc: Global, text: &str) -> Result<Box<Board>, Fail> {
     Ok(Box::new(alloc, sets::board(alloc, text)?)?)
 }
 
-/// The distances of a board, boxed as the board is.
+/// Returns the distances of a board, boxed like the board.
 pub(crate) fn distances(alloc: Global, board: &Board) -> Result<Box<Distances>, Fail>
     ensures { IfOk result (λ distances. distances.value.board ≡ board.now) }
 {
     Ok(Box::new(alloc, Distances::new(alloc, board)?)?)
 }
 
-/// A board and its distances together.
+/// Returns a board and its distances together.
 pub(crate) fn setting<'a>(board: &'a Board, distances: &'a Distances) -> Setting<'a>
     requires { distances.now.board ≡ board.now }
 {
     Setting { board, distances }
 }
 
-/// Whether squares have numbers below the end.
+/// Returns whether all squares have numbers below `end`.
 pub(crate) fn are_below(squares: &[Sq], end: usize) -> bool
     ensures { IsTrue result ↔ All (λ square. square < end) squares.now }
 {
     squares.iter().all(|square| (*square as usize) < end)
 }
 
-/// The set of some boxes, which stand on squares of a board beside a player.
+/// Returns the set of some boxes. They must be on squares of a board, and the player on another.
 pub(crate) fn placed(
     rt: &impl Abort,
     alloc: Global,

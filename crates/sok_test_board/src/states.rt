@@ -16,7 +16,7 @@ use std::alloc::Global;
 use std::process::Abort;
 use std::test::Fail;
 
-/// The key of a position, whose boxes rise and whose squares exist.
+/// Returns the key of a position. Its boxes must rise, and its squares must exist.
 fn key(rt: &impl Abort, alloc: Global, board: &Board, boxes: &[Sq], player: Sq) -> Result<Key, Fail>
     ensures { IfOk result (IsKey board.now) }
 {
@@ -24,7 +24,8 @@ fn key(rt: &impl Abort, alloc: Global, board: &Board, boxes: &[Sq], player: Sq) 
     Ok(Key::of(alloc, board, &boxes, player)?)
 }
 
-/// Whether the key of a box and a player has a least square, and is another's state.
+/// Returns whether the key of a box and a player has this least square, and whether it is the state
+/// with the box on 6 and the player on its left, as `same` says.
 fn has_key(
     rt: &impl Abort,
     alloc: Global,
@@ -60,7 +61,7 @@ fn keys_of_positions(rt: HostRuntime) -> Result<(), Fail> {
     Ok(())
 }
 
-/// Whether pushes are these: from which square, and in which direction.
+/// Returns whether these are the pushes: from which square, and in which direction.
 fn are(pushes: &[Push], told: &[(Sq, Dir)]) -> bool {
     for (i, push) in pushes.iter().enumerate() {
         if told.get(i) != Some(&(push.from, push.dir)) {
@@ -70,7 +71,7 @@ fn are(pushes: &[Push], told: &[(Sq, Dir)]) -> bool {
     pushes.len() == told.len()
 }
 
-/// Whether the legal pushes of a state are these.
+/// Returns whether these are the legal pushes of a state.
 fn has_pushes(
     rt: &impl Abort,
     alloc: Global,
@@ -85,11 +86,11 @@ fn has_pushes(
     Ok(are(&legal, told))
 }
 
-/// The state after the first legal push.
+/// Returns the state after the first legal push.
 fn next(alloc: Global, board: &Board, state: &Key) -> Result<Option<Key>, Fail>
     requires { IsKey board.now state.now }
 {
-    // The list of a set of boxes tells that they are not too many.
+    // The clauses of this call state that the boxes are not too many.
     let _boxes = state.boxes.list();
     let legal = pushes(alloc, board, state)?;
     if legal.len() == 0 {
@@ -100,7 +101,7 @@ fn next(alloc: Global, board: &Board, state: &Key) -> Result<Option<Key>, Fail>
     Ok(Some(scene.after(alloc, board, state, legal[0])?))
 }
 
-/// Whether the state after the first legal push has these boxes and this least square.
+/// Returns whether the state after the first legal push has these boxes and this least square.
 fn leads_to(
     rt: &impl Abort,
     alloc: Global,
@@ -120,7 +121,7 @@ fn leads_to(
 
 #[test]
 fn pushes_of_states(rt: HostRuntime) -> Result<(), Fail> {
-    // in the second case the player comes to each side of both boxes, below which there is a wall
+    // in the second case the player reaches each side of both boxes, below which there is a wall
     let cases: &[(&str, &[Sq], Sq, &[(Sq, Dir)])] = &[
         (sketch::CORRIDOR_OF_SIX_PUSHES, &[5], 4, &[(5, Dir::Right)]),
         (

@@ -1,4 +1,4 @@
-//! Tables of states: a key goes in once and comes back.
+//! Tables of states: a key is inserted once and can be read back.
 
 ghost use Rattle.std.specs.Prelude.{◌<◌, ◌≤◌, All, IfOk};
 
@@ -11,7 +11,8 @@ use std::alloc::Global;
 use std::process::Abort;
 use std::test::Fail;
 
-/// The key with boxes on rising squares, of which there are so many on a board, and a least square.
+/// Returns the key with a least square and boxes on rising squares, on a board of `squares`
+/// squares.
 fn key(rt: &impl Abort, alloc: Global, squares: usize, boxes: &[Sq], least: Sq) -> Result<Key, Fail>
     ensures { IfOk result (λ key. All (λ square. square < squares) key.boxes) }
 {
@@ -20,7 +21,7 @@ fn key(rt: &impl Abort, alloc: Global, squares: usize, boxes: &[Sq], least: Sq) 
     Ok(Key { boxes, least })
 }
 
-/// Whether a table has a key at an index, with a depth: it is found there, and comes back.
+/// Returns whether a table has a key at an index, with a depth: it is found, and can be read back.
 fn has_key(
     alloc: Global,
     squares: usize,
@@ -32,7 +33,7 @@ fn has_key(
     requires wide { squares ≤ table.now.room }
     requires exist { All (λ square. square < squares) key.now.boxes }
 {
-    // A key has few boxes, so the one that comes back has few.
+    // A key has few boxes, so the one that is read back has few.
     let _boxes = key.boxes.list();
     let Some(at) = table.get(key) else {
         return Ok(false);
@@ -45,7 +46,7 @@ fn has_key(
     Ok(at == index && table.depth(at) == depth && found == *key)
 }
 
-/// Whether a table takes a key first, and leaves it as it is when it comes again.
+/// Returns whether a table takes a key at first, and does not change when it is inserted again.
 fn keeps(alloc: Global, squares: usize, table: &mut Table, key: &Key) -> Result<bool, Fail>
     requires wide { squares ≤ table.old.room }
     requires exist { All (λ square. square < squares) key.now.boxes }
@@ -55,7 +56,7 @@ fn keeps(alloc: Global, squares: usize, table: &mut Table, key: &Key) -> Result<
     Ok(first == (0, true) && again == (0, false) && has_key(alloc, squares, table, key, 0, 0)?)
 }
 
-/// Asserts it of an empty table for so many squares.
+/// Asserts this for an empty table for so many squares.
 fn assert_table(
     rt: &impl Abort,
     alloc: Global,

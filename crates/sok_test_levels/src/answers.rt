@@ -7,7 +7,7 @@ use sok_text::line::cut_line;
 use std::alloc::Global;
 use std::test::Fail;
 
-/// What solving a level leaves behind.
+/// What is written and returned when a level is solved.
 #[derive(Drop)]
 pub(crate) struct Reply {
     pub status: u8,
@@ -15,7 +15,7 @@ pub(crate) struct Reply {
     pub cert: Vec<u8>,
 }
 
-/// A collection with a board as its second level, of which the first is at fault.
+/// Returns a collection with a board as its second level. Its first level is faulty.
 fn second(alloc: Global, board: &str) -> Result<String, Fail> {
     let mut boards = String::from_str(alloc, "#####\n#$ .#\n#####\n\n")?;
     boards.push_str(board)?;
@@ -32,7 +32,7 @@ pub(crate) fn answered(alloc: Global, board: &str, limit: u32) -> Result<Reply, 
     Ok(Reply { status, out, cert })
 }
 
-/// Whether the answer is the same where no certificate is asked for.
+/// Returns whether the answer is the same without a certificate.
 fn is_found(alloc: Global, board: &str, limit: u32, reply: &Reply) -> Result<bool, Fail> {
     let boards = second(alloc, board)?;
     let mut out = Vec::new(alloc);
@@ -40,13 +40,13 @@ fn is_found(alloc: Global, board: &str, limit: u32, reply: &Reply) -> Result<boo
     Ok(out.as_slice() == reply.out.as_slice() && status == reply.status)
 }
 
-/// How many entries a certificate has. The lines of a pattern are none by themselves.
+/// Returns how many entries a certificate has. The lines inside a pattern are not counted.
 fn entries_of(alloc: Global, text: &[u8]) -> Result<usize, Fail> {
     let certificate = read(alloc, text)?;
     Ok(certificate.entries.len())
 }
 
-/// Whether a certificate has at most so many entries, and is accepted.
+/// Returns whether a certificate has at most `limit` entries, and is accepted with this line.
 fn is_accepted(
     alloc: Global,
     board: &str,
@@ -60,22 +60,22 @@ fn is_accepted(
     Ok(entries <= limit as usize && status == 0 && out.as_slice() == line.as_bytes())
 }
 
-/// Whether a text replays on a board to this line.
+/// Returns whether a text replays on a board to this line.
 fn replays(alloc: Global, board: &str, text: &[u8], line: &[u8]) -> Result<bool, Fail> {
     let mut out = Vec::new(alloc);
     let status = replay_bytes(alloc, &mut board.as_bytes(), 1, text, &mut out)?;
     Ok(status == 0 && cut_line(out.as_slice()).0 == line)
 }
 
-/// Whether an answer tells so many pushes, and a text that replays to its line.
+/// Returns whether an answer has so many pushes, and a text that replays to its line.
 fn tells(alloc: Global, board: &str, out: &[u8], pushes: u32) -> Result<bool, Fail> {
     let (line, text) = cut_line(out);
     let front = format!(in alloc; "solved {pushes} ")?;
     Ok(line.starts_with(front.as_bytes()) && replays(alloc, board, text, line)?)
 }
 
-/// Whether a level is solved with so many pushes: the text that is written is replayed, and the
-/// certificate judged.
+/// Returns whether a level is solved with so many pushes: the text that is written is replayed, and
+/// the certificate is judged.
 pub(crate) fn is_solved(alloc: Global, board: &str, limit: u32, pushes: u32) -> Result<bool, Fail> {
     let reply = answered(alloc, board, limit)?;
     let accepted = format!(in alloc; "accepted at least {pushes} pushes\n")?;
@@ -86,7 +86,7 @@ pub(crate) fn is_solved(alloc: Global, board: &str, limit: u32, pushes: u32) -> 
     )
 }
 
-/// Whether none solves a level, and its certificate says so.
+/// Returns whether a level has no solution, and its certificate says so.
 pub(crate) fn is_unsolvable(alloc: Global, board: &str, limit: u32) -> Result<bool, Fail> {
     let reply = answered(alloc, board, limit)?;
     Ok(
@@ -96,7 +96,7 @@ pub(crate) fn is_unsolvable(alloc: Global, board: &str, limit: u32) -> Result<bo
     )
 }
 
-/// Whether an answer is the same without a certificate, and is shown by the one that it has.
+/// Returns whether an answer is the same without a certificate, and its certificate is accepted.
 fn is_shown(
     alloc: Global,
     board: &str,
@@ -110,9 +110,9 @@ fn is_shown(
     )
 }
 
-/// A level, a limit, and the fewest pushes, or that none solves it. Both numbers are those of a
-/// plain search, breadth first over all states of the level, but where another source is named: the
-/// limit is the number of the states.
+/// A level, a limit, and the fewest pushes, or none if there is no solution. The limit is the
+/// number of the level's states. Unless another source is named, both numbers come from a plain
+/// breadth-first search over all states of the level.
 const LEVELS: [(&str, u32, Option<u32>); 21] = [
     (sketch::ONE_PUSH, 2, Some(1)),
     (sketch::SOLVED, 1, Some(0)),
@@ -122,7 +122,7 @@ const LEVELS: [(&str, u32, Option<u32>); 21] = [
     (sketch::CORRIDOR_OF_SIX_PUSHES, 14, Some(6)),
     (sketch::TWO_BOXES_FOR_ONE_GOAL, 10, None),
     (sketch::TWO_BOXES_AND_THREE_GOALS, 15, Some(2)),
-    // this one by hand, at the greatest limit
+    // this one was worked out by hand, with the greatest limit
     (sketch::DECORATED, 1_000_000, Some(1)),
     (sketch::NO_BOX_INSIDE, 1, Some(0)),
     (sketch::BOX_IN_THE_OPEN, 9, Some(2)),
@@ -212,7 +212,7 @@ fn levels(rt: HostRuntime) -> Result<(), Fail> {
     Ok(())
 }
 
-/// Whether a level is answered by this text, with a certificate unless the limit is met.
+/// Returns whether a level has this answer, with a certificate unless the limit was met.
 fn is_answered(
     alloc: Global,
     board: &str,
@@ -229,7 +229,7 @@ fn is_answered(
     )
 }
 
-/// Answers that are no other: the text of the solution, or the limit, which has no certificate.
+/// Whole answers: the text of the solution, or the limit, which has no certificate.
 #[test]
 fn whole_answers(rt: HostRuntime) -> Result<(), Fail> {
     for &(board, limit, text, status) in &[
@@ -248,8 +248,8 @@ fn whole_answers(rt: HostRuntime) -> Result<(), Fail> {
     Ok(())
 }
 
-/// Whether this is told of a limit that is met where a bound is asked for: with a certificate, which
-/// is accepted for as many pushes, and without.
+/// Returns whether a limit that was met has this answer if a bound is asked for: with a
+/// certificate, which is accepted for as many pushes, and without one.
 fn is_bounded(alloc: Global, limit: u32, line: &str, accepted: &str) -> Result<bool, Fail> {
     let board = sketch::CORRIDOR_OF_SIX_PUSHES;
     let mut out = Vec::new(alloc);
@@ -264,15 +264,15 @@ fn is_bounded(alloc: Global, limit: u32, line: &str, accepted: &str) -> Result<b
     )
 }
 
-/// Whether this is told without a certificate.
+/// Returns whether this is the answer without a certificate.
 fn is_bounded_alone(alloc: Global, board: &str, limit: u32, line: &str) -> Result<bool, Fail> {
     let mut out = Vec::new(alloc);
     let status = find_bytes(alloc, &mut board.as_bytes(), 1, limit, true, &mut out)?;
     Ok(status == 4 && out.as_slice() == line.as_bytes())
 }
 
-/// The start alone waits, whose box is two pushes from the goal; or it was pushed once, and then it
-/// is three pushes away.
+/// The start alone is in the open list, and its box is two pushes from the goal. Or it was pushed
+/// once, and is then three pushes away.
 #[test]
 fn bounds_are_told(rt: HostRuntime) -> Result<(), Fail> {
     for &(limit, line, accepted) in &[

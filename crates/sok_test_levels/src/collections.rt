@@ -10,7 +10,7 @@ use std::alloc::{AllocError, Global};
 use std::process::Abort;
 use std::test::Fail;
 
-/// The text of a level's rows.
+/// Returns the text of a level's rows.
 fn drawn(alloc: Global, level: &Level) -> Result<String, AllocError> {
     let mut text = String::new(alloc);
     for row in level.rows() {
@@ -46,7 +46,7 @@ const NOTES: &str = "\
 #####
 Title: Third";
 
-/// Whether a level of a text is drawn so, or why there is none.
+/// Returns whether a level of a text is drawn like this, or has this fault.
 fn is_drawn(
     alloc: Global,
     text: &[u8],
@@ -63,7 +63,7 @@ fn is_drawn(
 /// Lines that end with CR LF.
 const RETURNS: &str = "-#####\r\n-#@$.#\r\n-#####\r\n";
 
-/// Levels of a text by their numbers, or why there are none.
+/// Levels of a text by their numbers, or their faults.
 #[test]
 fn levels_by_their_numbers(rt: HostRuntime) -> Result<(), Fail> {
     for &(text, n, told) in &[
@@ -81,7 +81,7 @@ fn levels_by_their_numbers(rt: HostRuntime) -> Result<(), Fail> {
             Err(LevelFault::ManyPlayers),
         ),
         (sketch::NO_BOX, 1, Err(LevelFault::NoBox)),
-        // the first in the order of refusal
+        // the first fault in the order of refusal
         (sketch::NEITHER_PLAYER_NOR_BOX, 1, Err(LevelFault::NoPlayer)),
     ] {
         assert!(rt;
@@ -92,7 +92,7 @@ fn levels_by_their_numbers(rt: HostRuntime) -> Result<(), Fail> {
     Ok(())
 }
 
-/// A title stands behind `Title:` after a board, or else in the last note before it.
+/// A title follows `Title:` after a board. Otherwise it is in the last note before the board.
 #[test]
 fn titles_by_their_numbers(rt: HostRuntime) -> Result<(), Fail> {
     let collection = Collection::read(rt.alloc(), NOTES.as_bytes())?;
@@ -109,7 +109,7 @@ fn titles_by_their_numbers(rt: HostRuntime) -> Result<(), Fail> {
     Ok(())
 }
 
-/// Each row is printed with LF behind it, and without the floor at its end.
+/// Each row is printed with LF after it, and without the floor at its end.
 #[test]
 fn level_is_printed(rt: HostRuntime) -> Result<(), Fail> {
     let level = sketch::level(rt.alloc(), "####\n#@$.#  \n#####\n")?;
@@ -118,14 +118,14 @@ fn level_is_printed(rt: HostRuntime) -> Result<(), Fail> {
     Ok(())
 }
 
-/// How many levels a text has, and why the first is none.
+/// Returns how many levels a text has, and the fault of the first.
 fn levels_and_fault(alloc: Global, text: &[u8]) -> Result<(usize, Option<LevelFault>), Fail> {
     let collection = Collection::read(alloc, text)?;
     let fault = collection.level(alloc, 1).err();
     Ok((collection.len(), fault))
 }
 
-/// Packed lines of many rows and of long rows, floor at the ends of which counts for nothing.
+/// Packed lines of many rows and of long rows. Floor at the ends of rows does not count.
 #[test]
 fn packed_lines_at_their_limits(rt: HostRuntime) -> Result<(), Fail> {
     for &(part, times, behind, fault) in &[
@@ -148,7 +148,7 @@ fn packed_lines_at_their_limits(rt: HostRuntime) -> Result<(), Fail> {
     Ok(())
 }
 
-/// Of all texts of one byte a wall alone is a board, and it has no player.
+/// Of all texts of one byte, only a wall is a board, and it has no player.
 #[test]
 fn single_bytes(rt: HostRuntime) -> Result<(), Fail> {
     for byte in 0..=u8::MAX {
@@ -163,7 +163,7 @@ fn single_bytes(rt: HostRuntime) -> Result<(), Fail> {
     Ok(())
 }
 
-/// Whether a text has so many levels, and the first one so many rows.
+/// Returns whether a text has so many levels, and the first one so many rows.
 fn has_levels(
     alloc: Global,
     text: &[u8],
@@ -174,12 +174,12 @@ fn has_levels(
     Ok(collection.len() == levels && rows_of(alloc, &collection, 1).ok() == rows)
 }
 
-/// How many rows a level has.
+/// Returns how many rows a level has.
 fn rows_of(alloc: Global, collection: &Collection<'_>, n: usize) -> Result<usize, LevelFault> {
     Ok(collection.level(alloc, n)?.rows().len())
 }
 
-/// How many levels a text has, and how many rows the first one.
+/// The number of levels in a text, and the number of rows of the first.
 #[test]
 fn board_lines_and_notes(rt: HostRuntime) -> Result<(), Fail> {
     let cases: &[(&[u8], usize, Option<usize>)] = &[

@@ -1,4 +1,4 @@
-//! Readers that give a byte at a time, and fail: each engine on files, at each of its reads.
+//! Readers that return a byte at a time, and fail: each engine on files, at each of its reads.
 
 use crate::engines::{check_bytes, find_bytes, list_bytes, play_bytes, replay_bytes, solve_bytes};
 use sok_engine::fault::ToolFault;
@@ -11,13 +11,13 @@ use std::test::Fail;
 
 const CERT: &str = "sokoban-certificate 1\npushes 6\nx 0 4 1 5\nx 1 5 1 6\nb 2 6 1 7 4 0\nend\n";
 
-/// Its header is wrong, so that the rest is read for its length alone.
+/// A certificate with a wrong header, so that the rest is read only for its length.
 const NO_CERT: &str = "sokoban-certificate 0\npushes 6\nx 0 4 1 5\nx 1 5 1 6\nend\n";
 
-/// Its first entry is wrong, and those behind it are read all the same.
+/// A certificate with a wrong first entry. Those after it are read all the same.
 const BAD_ENTRY: &str = "sokoban-certificate 1\npushes 6\nx 0 4 1 99\nx 1 5 1 6\nend\n";
 
-/// An engine, by which of its inputs is read.
+/// An engine, and which of its inputs is read.
 #[derive(Clone, Copy, Debug)]
 enum Engine {
     Play,
@@ -29,7 +29,7 @@ enum Engine {
     CheckCert,
 }
 
-/// Lets an engine work on a reader. What it writes to both its outputs goes to one.
+/// Runs an engine on a reader. What it writes to its two outputs goes to one.
 fn work<R: Read>(
     alloc: Global,
     engine: Engine,
@@ -50,7 +50,7 @@ fn work<R: Read>(
     }
 }
 
-/// Whether this is told and written of a text of which one read fails, or none.
+/// Returns whether this is returned and written for a text of which one read fails, or none.
 fn is_told(
     alloc: Global,
     engine: Engine,
@@ -68,8 +68,9 @@ fn is_told(
     work(alloc, engine, &mut input, &mut out) == told && out.as_slice() == written
 }
 
-/// Asserts that an engine reads a text to its end, as one that is given whole, that the answer
-/// begins with these words, and that it is `ReadFailed`, with nothing written, if any read fails.
+/// Asserts that an engine answers a text that comes byte by byte like one that comes whole, and
+/// that the answer begins with these words. If any read fails, it is `ReadFailed`, with nothing
+/// written.
 fn fail_each_read(rt: &impl Abort, alloc: Global, engine: Engine, text: &str, words: &str) {
     let mut whole = Vec::new(alloc);
     let told = work(alloc, engine, &mut text.as_bytes(), &mut whole);
@@ -81,7 +82,7 @@ fn fail_each_read(rt: &impl Abort, alloc: Global, engine: Engine, text: &str, wo
         is_told(alloc, engine, text, 0, told, whole.as_slice()),
         "{engine:?}"
     );
-    // the read that tells the end is one more
+    // the read that reports the end is one more
     for read in 1..text.len().saturating_add(2) {
         let failed = Err(ToolFault::ReadFailed);
         assert!(rt;
@@ -91,7 +92,7 @@ fn fail_each_read(rt: &impl Abort, alloc: Global, engine: Engine, text: &str, wo
     }
 }
 
-/// A text that is played, and the board behind it.
+/// Returns a text that is played, and the board after it.
 fn played(alloc: Global) -> Result<String, Fail> {
     let mut text = String::from_str(alloc, "ulldRR\n")?;
     text.push_str(ROOM_OF_TWO_ROWS)?;

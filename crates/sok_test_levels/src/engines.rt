@@ -1,5 +1,5 @@
-//! The engines, without what their contracts say. A test that called one by itself would be checked
-//! over all of that.
+//! The engines without their contracts. A test that called one directly would be checked against
+//! all of that.
 
 use sok_engine::fault::ToolFault;
 use std::alloc::Global;

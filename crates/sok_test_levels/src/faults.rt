@@ -13,7 +13,7 @@ use std::io;
 use std::io::Write;
 use std::test::Fail;
 
-/// Takes so many bytes, one at each write, and fails from then on.
+/// Takes so many bytes, one at each write, and fails after that.
 #[derive(Drop)]
 struct Full {
     taken: Vec<u8>,
@@ -30,7 +30,8 @@ impl Full {
         }
     }
 
-    /// Whether it took a front of a text, as much as it has room for, and was then asked once.
+    /// Returns whether it took the front of a text that it has room for, and was then written to
+    /// once.
     fn has(&self, whole: &[u8]) -> bool {
         self.failed == 1 && Some(self.taken.as_slice()) == whole.get(..self.room)
     }
@@ -54,7 +55,8 @@ impl Write for Full {
     }
 }
 
-/// Whether a level is refused by a fault, with nothing written, with a certificate and without.
+/// Returns whether a level is refused with this fault and nothing is written, with a certificate
+/// and without one.
 fn refuses(alloc: Global, board: &str, n: usize, limit: u32, fault: ToolFault) -> bool {
     let mut out = Vec::new(alloc);
     let mut cert = Vec::new(alloc);
@@ -81,7 +83,7 @@ fn refusals(rt: HostRuntime) {
             10,
             ToolFault::Level(LevelFault::NoSuchLevel),
         ),
-        // a level comes before its limit, and the limit before the board
+        // the faults of a level come before its limit, and the limit before the board
         (
             sketch::TWO_PLAYERS,
             1,
@@ -119,8 +121,8 @@ fn refusals(rt: HostRuntime) {
     }
 }
 
-/// Whether a writer of a certificate that takes so many bytes has a front of it then, and is not
-/// written to again, and nothing of the answer is written.
+/// Returns whether a full writer of the certificate has the front of it and is not written to
+/// again, and nothing of the answer is written.
 fn is_full(alloc: Global, board: &str, limit: u32, whole: &[u8], room: usize) -> bool {
     let mut cert = Full::new(alloc, room);
     let mut out = Vec::new(alloc);
@@ -136,8 +138,8 @@ fn is_full(alloc: Global, board: &str, limit: u32, whole: &[u8], room: usize) ->
     told == Err(ToolFault::WriteFailed) && cert.has(whole) && out.is_empty()
 }
 
-/// Whether the certificate is written whole, and a writer of the answer that takes so many bytes
-/// has a front of it then, and is not written to again.
+/// Returns whether the certificate is written whole, and a full writer of the answer has the front
+/// of it and is not written to again.
 fn is_full_behind(alloc: Global, board: &str, limit: u32, whole: &Reply, room: usize) -> bool {
     let mut cert = Vec::new(alloc);
     let mut out = Full::new(alloc, room);
@@ -155,8 +157,8 @@ fn is_full_behind(alloc: Global, board: &str, limit: u32, whole: &Reply, room: u
         && out.has(&whole.out)
 }
 
-/// The writer of the certificate is full, and nothing of the answer is written; or it is not, and
-/// that of the answer is full. Neither is written to again.
+/// If the writer of the certificate is full, nothing of the answer is written. Otherwise the writer
+/// of the answer is full. Neither is written to again.
 #[test]
 fn full_writers(rt: HostRuntime) -> Result<(), Fail> {
     let board = sketch::ROOM_OF_TWO_ROWS;
@@ -173,8 +175,8 @@ fn full_writers(rt: HostRuntime) -> Result<(), Fail> {
     Ok(())
 }
 
-/// A certificate of more than 10,000 bytes is written in two blocks or more: the writer is full
-/// before the end of the first, at it, behind it, and in the next one.
+/// A certificate of more than 10,000 bytes is written in two blocks or more. The writer is full
+/// before the end of the first, at it, after it, and in the next one.
 #[test]
 fn full_behind_a_block(rt: HostRuntime) -> Result<(), Fail> {
     let whole = answered(rt.alloc(), ZERKALO, 1_000)?;

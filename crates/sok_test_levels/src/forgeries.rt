@@ -12,7 +12,7 @@ use std::alloc::Global;
 use std::process::Abort;
 use std::test::Fail;
 
-/// Whether a claim is true of a level that so many pushes solve at the least.
+/// Returns whether a claim is true of a level whose solutions have at least so many pushes.
 fn is_true(claim: Claim, fewest: u32) -> bool {
     match claim {
         Claim::Pushes(pushes) => pushes <= fewest,
@@ -20,7 +20,7 @@ fn is_true(claim: Claim, fewest: u32) -> bool {
     }
 }
 
-/// What comes of a text with another byte in a place.
+/// Judges a text with another byte at a place. Returns the claim, if it is accepted.
 fn claim_with(
     alloc: Global,
     board: &Board,
@@ -50,7 +50,7 @@ fn corridor_with_each_byte_changed(rt: HostRuntime) -> Result<(), Fail> {
     Ok(())
 }
 
-/// The lines of the certificate that the solver writes for a level.
+/// Returns the lines of the certificate that the solver writes for a level.
 fn lines_of(alloc: Global, drawn: &str) -> Result<Vec<String>, Fail> {
     let text = String::from_utf8(answered(alloc, drawn, 1_000)?.cert)?;
     let mut lines = Vec::new(alloc);
@@ -60,7 +60,7 @@ fn lines_of(alloc: Global, drawn: &str) -> Result<Vec<String>, Fail> {
     Ok(lines)
 }
 
-/// A line with the number in one place raised or lowered by one, if one stands there.
+/// Returns a line whose number at one place is raised or lowered by one, if there is one.
 fn renumbered(alloc: Global, line: &str, place: usize, raised: bool) -> Result<String, Fail> {
     let mut changed = String::new(alloc);
     for (index, field) in line.split(' ').enumerate() {
@@ -80,7 +80,7 @@ fn renumbered(alloc: Global, line: &str, place: usize, raised: bool) -> Result<S
     Ok(changed)
 }
 
-/// The line of an entry with another reason.
+/// Returns the line of an entry with another reason.
 fn reasoned(alloc: Global, line: &str, letter: &str, numbers: &str) -> Result<String, Fail> {
     let boxes = match line.split(' ').nth(3) {
         Some(field) => field.parse::<usize>().unwrap_or(0),
@@ -95,7 +95,7 @@ fn reasoned(alloc: Global, line: &str, letter: &str, numbers: &str) -> Result<St
     Ok(changed)
 }
 
-/// A line that is changed in one way or another.
+/// Returns a line that is changed in one of several ways.
 fn changed(alloc: Global, line: &str, state: &mut u64) -> Result<String, Fail> {
     match next(state, 8) {
         0 => reasoned(alloc, line, "x", ""),
@@ -128,7 +128,7 @@ fn forge(alloc: Global, lines: &mut Vec<String>, state: &mut u64) -> Result<(), 
     Ok(())
 }
 
-/// Another claim in the place of a certificate's, or the same.
+/// Returns the line of a claim, changed or the same.
 fn claimed(alloc: Global, line: &str, state: &mut u64) -> Result<String, Fail> {
     match next(state, 3) {
         0 => Ok(String::from_str(alloc, "unsolvable")?),
@@ -137,7 +137,7 @@ fn claimed(alloc: Global, line: &str, state: &mut u64) -> Result<String, Fail> {
     }
 }
 
-/// The lines of a certificate, perhaps with another claim.
+/// Returns the lines of a certificate, perhaps with another claim.
 fn reclaimed(alloc: Global, lines: &[String], state: &mut u64) -> Result<Vec<String>, Fail> {
     let mut own = Vec::new(alloc);
     for (index, line) in lines.iter().enumerate() {
@@ -160,7 +160,7 @@ fn forge_on(alloc: Global, lines: &mut Vec<String>, state: &mut u64) -> Result<(
     Ok(())
 }
 
-/// The text of some lines.
+/// Returns the text of some lines.
 fn text_of(alloc: Global, lines: &[String]) -> Result<String, Fail> {
     let mut text = String::new(alloc);
     for line in lines {
@@ -170,14 +170,14 @@ fn text_of(alloc: Global, lines: &[String]) -> Result<String, Fail> {
     Ok(text)
 }
 
-/// The text of a certificate that is changed in one to three ways.
+/// Returns the text of a certificate that is changed in one to three ways.
 fn forged(alloc: Global, lines: &[String], state: &mut u64) -> Result<String, Fail> {
     let mut own = reclaimed(alloc, lines, state)?;
     forge_on(alloc, &mut own, state)?;
     text_of(alloc, &own)
 }
 
-/// Whether a forged certificate is accepted. Asserts that its claim is true then.
+/// Returns whether a forged certificate is accepted. Asserts that its claim is true if it is.
 fn is_accepted(
     rt: &impl Abort,
     alloc: Global,
@@ -194,8 +194,8 @@ fn is_accepted(
     Ok(false)
 }
 
-/// Asserts that of 5,000 forged certificates of a level some are accepted, and each with a claim
-/// that is true.
+/// Forges 5,000 certificates of a level. Asserts that some are accepted, and that the claim of each
+/// of these is true.
 fn forge_for(rt: &impl Abort, alloc: Global, drawn: &str, fewest: u32) -> Result<(), Fail> {
     let board = sets::board(alloc, drawn)?;
     let lines = lines_of(alloc, drawn)?;

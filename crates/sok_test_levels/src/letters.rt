@@ -9,10 +9,10 @@ use sok_text::lurd::{LurdFault, print_lurd, read_lurd};
 use std::alloc::{AllocError, Global};
 use std::test::Fail;
 
-/// So many letters, a text behind them, and what the text spells.
+/// So many letters, a text after them, and the letters that the text spells.
 type Case<'a> = (usize, &'a str, Result<&'a [Dir], LurdFault>);
 
-/// Whether so many letters and a text behind them spell this.
+/// Returns whether so many letters and a text after them spell this.
 fn spells(alloc: Global, case: Case<'_>) -> Result<bool, AllocError> {
     let (times, behind, told) = case;
     let mut text = "l".repeat(alloc, times)?;
@@ -38,7 +38,7 @@ fn letters_of_a_text(rt: HostRuntime) -> Result<(), Fail> {
         (0, "ulxR", Err(LurdFault::BadLetter(2))),
         (0, " x", Err(LurdFault::BadLetter(1))),
         (0, "u\0", Err(LurdFault::BadLetter(1))),
-        // numbers repeat the letter behind them
+        // numbers repeat the letter after them
         (0, "\n\n2l 1U", Ok(&[Left, Left, Up])),
         (0, "02r", Ok(&[Right, Right])),
         (999_998, "2D", Ok(&[Down, Down])),
@@ -64,7 +64,7 @@ fn letters_of_a_text(rt: HostRuntime) -> Result<(), Fail> {
     Ok(())
 }
 
-/// Whether letters are printed so.
+/// Returns whether letters are printed like this, or have this fault.
 fn prints(alloc: Global, level: &Level, letters: &[Dir], told: Result<&[u8], PlayFault>) -> bool {
     match print_lurd(alloc, level, letters) {
         Ok(text) => told == Ok(text.as_slice()),

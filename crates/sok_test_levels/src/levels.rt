@@ -20,7 +20,7 @@ fn rows_without_a_wall(rt: HostRuntime) -> Result<(), Fail> {
     let cases: &[(&[&[Cell]], LevelFault)] = &[
         (&[BOTH], LevelFault::NoWall(0)),
         (&[WALLS, &[Cell::Floor], BOTH], LevelFault::NoWall(1)),
-        // the first in the order of refusal
+        // the first fault in the order of refusal
         (&[PLAYERS], LevelFault::NoWall(0)),
         (&[], LevelFault::NoPlayer),
     ];
@@ -34,7 +34,7 @@ fn rows_without_a_wall(rt: HostRuntime) -> Result<(), Fail> {
     Ok(())
 }
 
-/// Why there is no level of so many columns in the second row, and rows of walls below it.
+/// Returns the fault of a level with so many columns in the second row and rows of walls below it.
 fn fault_of(alloc: Global, columns: usize, walls: usize) -> Result<Option<LevelFault>, AllocError> {
     let mut board = String::from_str(alloc, "#@$.#\n")?;
     board.push_str("#".repeat(alloc, columns)?.as_str())?;
@@ -43,7 +43,7 @@ fn fault_of(alloc: Global, columns: usize, walls: usize) -> Result<Option<LevelF
     Ok(sketch::level(alloc, board.as_str()).err())
 }
 
-/// The widest and the tallest level, and one more. Floor at the end of a row does not count.
+/// The widest and the tallest level, and one larger each. Floor at the end of a row does not count.
 #[test]
 fn sizes_of_levels(rt: HostRuntime) -> Result<(), Fail> {
     for &(columns, walls, fault) in &[

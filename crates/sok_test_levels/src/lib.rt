@@ -1,5 +1,5 @@
-//! Tests of what is asked of one level or one text, from the rules up to the engines on files:
-//! worked levels, with answers that were worked out by hand.
+//! Tests of single levels and texts, from the rules up to the engines on files: worked levels,
+//! with answers that were worked out by hand.
 //!
 //! | Module | What it tests |
 //! |---|---|
@@ -12,7 +12,7 @@
 //! | `letters` | which letters a text spells, and the text of played letters |
 //! | `levels` | which rows are a level |
 //! | `lines` | the list of a collection's levels, and the replay of a text: all that is written |
-//! | `near` | which lines of a text are nearly of a board |
+//! | `near` | which lines of a text are almost lines of a board |
 //! | `patterns` | certificates with patterns, judged |
 //! | `plays` | replays, and play letter by letter with undo and redo |
 //! | `solves` | the fewest pushes of worked levels, or that there are none, and what limits mean |

@@ -11,11 +11,11 @@ use std::test::Fail;
 const COLLECTION: &[u8] = b"; First\n#####\n#@$.#\n#####\n\n#####\n#$ .#\n#####\n\
     ; Third\n####        \n#.@#\n#$*#\n# .#\n######\n";
 
-/// A faulty level between others, and the same board with a title behind it.
+/// A faulty level between others, and the same board with a title after it.
 const WITH_A_FAULT: &[u8] = b"; First\n#####\n#@$.#\n#####\n\n######\n#@$@.#\n######\n\n\
     #####\n#@$.#\n#####\nTitle: Third";
 
-/// Whether a collection is listed in these lines.
+/// Returns whether a collection is listed with these lines.
 fn lists(alloc: Global, mut collection: &[u8], lines: &[u8]) -> bool {
     let mut out = Vec::new(alloc);
     let result = list_bytes(alloc, &mut collection, &mut out);
@@ -36,14 +36,14 @@ fn lists_levels_and_faults(rt: HostRuntime) -> Result<(), Fail> {
         ),
         // a box on a goal outside the area
         (b"#######\n#@$.#*#\n#######\n", b"1 3 7 2 2\n"),
-        // a title behind the board comes first
+        // a title after the board comes first
         (b"; A\n\n#####\n#@$.#\n#####\nTitle: B\n", b"1 3 5 1 1 B\n"),
         // the last note that is not blank has no semicolon
         (b"; A\nx\n#####\n#@$.#\n#####\n", b"1 3 5 1 1\n"),
         (b";\n#####\n#@$.#\n#####\n", b"1 3 5 1 1\n"),
         (b"#####\n#@$.#\n#####\nTitle:\nTitle: C\n", b"1 3 5 1 1 C\n"),
         (b";  A b\t\n#####\n#@$.#\n#####\n", b"1 3 5 1 1 A b\n"),
-        // packed lines, and lines with counts that are none
+        // packed lines, and lines with counts that are no packed lines
         (b"5#|#@$.#|5#", b"1 3 5 1 1\n"),
         (b"5#||#@$.#", b"1 fault 17 NoWall 1\n"),
         (b"5#", b""),
@@ -60,7 +60,7 @@ fn lists_levels_and_faults(rt: HostRuntime) -> Result<(), Fail> {
     Ok(())
 }
 
-/// Whether a text on a level of a collection is answered by this line.
+/// Returns whether a text on a level of a collection has this line as its answer.
 fn is_answered(
     alloc: Global,
     mut collection: &[u8],

@@ -1,10 +1,10 @@
-//! Which lines of a text are nearly of a board, however its bytes come.
+//! Which lines of a text are almost lines of a board, whatever pieces its bytes come in.
 
 use sok_near::near::NearLine;
 use sok_near::scan::NearScan;
 use std::test::Fail;
 
-/// What is found in a text that comes as a whole.
+/// Scans a text that comes as a whole.
 fn scanned(text: &str) -> NearScan {
     let mut scan = NearScan::new();
     scan.pass(text.as_bytes());
@@ -12,7 +12,7 @@ fn scanned(text: &str) -> NearScan {
     scan
 }
 
-/// And byte by byte.
+/// Scans a text that comes byte by byte.
 fn scanned_slowly(text: &str) -> NearScan {
     let mut scan = NearScan::new();
     for byte in text.as_bytes() {
@@ -30,8 +30,8 @@ fn is_found(scan: &NearScan, first: &[(u64, usize)], count: u64) -> bool {
     scan.count() == count && scan.first().iter().copied().eq(first)
 }
 
-/// A text, the first lines in it that are nearly of a board, by number and place, and how many there
-/// are.
+/// A text, the first lines in it that are almost lines of a board, by number and place, and how
+/// many there are.
 type Row = (&'static str, &'static [(u64, usize)], u64);
 
 const ROWS: [Row; 5] = [
@@ -40,15 +40,15 @@ const ROWS: [Row; 5] = [
         &[],
         0,
     ),
-    // a byte order mark, at the front alone; a tab; digits and bars of no packed line
+    // a byte order mark, only at the front; a tab; digits and bars of no packed line
     (
         "\u{feff}#####\n#\u{feff}#\n# \t#\n\t\t##\n#3\n#|3\n",
         &[(1, 0), (3, 2), (5, 1)],
         3,
     ),
-    // a carriage return belongs to a line end, and else to the line
+    // a carriage return belongs to a line end, and otherwise to the line
     ("##\r\n##\r\r\n#\r#\r\n##\r", &[(2, 2), (3, 1), (4, 2)], 3),
-    // letters do not stand in boards, and a line without a wall is none
+    // letters are not part of boards, and a line without a wall is not a line of a board
     ("# @ x #\n  x\nx#", &[(1, 4), (3, 0)], 2),
     (
         "#x\n#x\n#x\n#x\n#x\n#x\n#x\n#x\n#x\n#x\n#x\n#x\n",

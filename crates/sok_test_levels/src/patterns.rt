@@ -8,7 +8,7 @@ use std::alloc::Global;
 use std::process::Abort;
 use std::test::Fail;
 
-/// A text, and what comes of it.
+/// The text of a certificate, and the claim or fault that it has.
 type Case = (&'static str, Result<Claim, CertFault>);
 
 const BAD_REASON: Result<Claim, CertFault> = Err(CertFault::BadReason(0));
@@ -25,7 +25,7 @@ const PAIR_THAT_IS_LOST: [Case; 22] = [
          f 1 10 2 11 12 2 0 1\r\nend\r\n",
         Ok(Claim::Pushes(9)),
     ),
-    // the depths inside are their own
+    // the depths inside a pattern are its own
     (
         "sokoban-certificate 2\nunsolvable\np 0 9 3 7 10 12 2 1 2 2\nf 0 10 2 11 12 2 0 1\n\
          x 0 9 2 10 12\nend\n",

@@ -1,4 +1,4 @@
-//! What replaying a text tells, and play letter by letter with undo and redo.
+//! What the replay of a text reports, and play letter by letter with undo and redo.
 
 use sok_rules::cell::{Dir, Spot};
 use sok_rules::fault::PlayFault;
@@ -20,7 +20,7 @@ fn step_each(session: &mut Session, letters: &[Dir]) -> Result<(), PlayFault> {
     Ok(())
 }
 
-/// What a session tells after letters one by one, which at last are undone and played again.
+/// Plays letters one by one, undoes them all and plays them again. Returns what the session shows.
 fn told_after(session: &mut Session, letters: &[Dir]) -> Result<Tally, PlayFault> {
     step_each(session, letters)?;
     for _ in letters {
@@ -36,14 +36,14 @@ fn told_after(session: &mut Session, letters: &[Dir]) -> Result<Tally, PlayFault
     })
 }
 
-/// The same of a session on a board.
+/// Does the same in a session on a board.
 fn played(alloc: Global, board: &str, letters: &[Dir]) -> Result<Result<Tally, PlayFault>, Fail> {
     let level = sketch::level(alloc, board)?;
     let mut session = Session::new(alloc, &level)?;
     Ok(told_after(&mut session, letters))
 }
 
-/// Whether this is told of a text on a board: whole, and letter by letter.
+/// Returns whether this is reported of a text on a board: whole, and letter by letter.
 fn tells(
     alloc: Global,
     board: &str,
@@ -59,8 +59,8 @@ fn replayed(alloc: Global, board: &str, letters: &[Dir]) -> Result<Result<Tally,
     Ok(replay(alloc, &level, letters))
 }
 
-/// Asserts the solved, the pushes and the moves of a text on a board, or its first letter that is
-/// not legal.
+/// Asserts whether a text solves a board, and its pushes and moves; or its first letter that is not
+/// legal.
 fn assert_told(
     rt: &impl Abort,
     alloc: Global,
@@ -114,7 +114,7 @@ fn texts_on_boards(rt: HostRuntime) -> Result<(), Fail> {
             "rrrdRullldR",
             Ok((true, 2, 11)),
         ),
-        // open at the side, which play takes for a wall
+        // a board that is open at the side, which play takes for a wall
         (sketch::OPEN_AT_THE_SIDE, "R", Ok((true, 1, 1))),
         (sketch::SOLVED, "", Ok((true, 0, 0))),
         // solved on the way, and not at the end
@@ -133,8 +133,8 @@ fn texts_on_boards(rt: HostRuntime) -> Result<(), Fail> {
     Ok(())
 }
 
-/// Whether a session tells these pushes and moves, and shows this middle row, in which a box off
-/// goals is all that it may lack.
+/// Returns whether a session has these pushes and moves, and shows this middle row. It must be
+/// solved if the row has no box off a goal, and only then.
 fn shows(session: &Session, pushes: u64, moves: u64, row: &str) -> bool {
     let is_solved = !row.as_bytes().contains(&b'$');
     session.pushes() == pushes
@@ -154,10 +154,10 @@ fn has_row(session: &Session, row: &str) -> bool {
     session.cell(Spot { row: 1, col }).is_none()
 }
 
-/// What is done in a session, what it answers, and the pushes, the moves and the middle row then.
+/// An act in a session, its answer, and the pushes, the moves and the middle row after it.
 type Turn = (Act, Result<bool, PlayFault>, u64, u64, &'static str);
 
-/// Asserts what a session answers and shows, turn by turn.
+/// Asserts what a session answers and shows, act by act.
 fn act_in_turn(rt: &impl Abort, session: &mut Session, turns: &[Turn]) {
     for (act, told, pushes, moves, row) in turns {
         assert_eq!(rt; answer(session, *act), *told, "before {row}");
@@ -192,7 +192,7 @@ fn letters_are_taken_back_and_played_again(rt: HostRuntime) -> Result<(), Fail> 
     let then: &[Turn] = &[
         (Act::Play(Dir::Left), Ok(false), 1, 2, "#@ * #"),
         (Act::Undo, Ok(true), 1, 1, "# @* #"),
-        // a letter that is played drops those undone
+        // a letter that is played drops the undone ones
         (Act::Play(Dir::Right), Ok(true), 2, 2, "#  +$#"),
         (Act::Redo, Ok(false), 2, 2, "#  +$#"),
         (Act::Reset, Ok(true), 0, 0, "#@$. #"),

@@ -1,4 +1,4 @@
-//! The fewest pushes of worked levels, or that none solve them; and what a limit means.
+//! The fewest pushes of worked levels, or that they have no solution; and what a limit means.
 
 use sok_board::board::Board;
 use sok_board::fault::BoardFault;
@@ -37,14 +37,14 @@ fn assert_certified(
     Ok(())
 }
 
-/// Whether letters solve a level with so many pushes.
+/// Returns whether letters solve a level with so many pushes.
 fn solves(alloc: Global, level: &Level, letters: &[Dir], pushes: u32) -> Result<bool, Fail> {
     let tally = replay(alloc, level, letters)?;
     Ok(tally.solved && tally.pushes == u64::from(pushes))
 }
 
-/// The pushes that an outcome tells, and None where there is no solution. Asserts that the letters
-/// solve with as many pushes, and that the certificate is accepted.
+/// Returns the pushes of an outcome, or `None` if there is no solution. Asserts that the letters
+/// solve the level with as many pushes, and that the certificate is accepted.
 fn pushes_in(
     rt: &impl Abort,
     alloc: Global,
@@ -73,15 +73,15 @@ fn pushes_in(
     }
 }
 
-/// The pushes of a level's solution, and None where there is none.
+/// Returns the pushes of a level's solution, or `None` if there is none.
 fn pushes_of(rt: &impl Abort, alloc: Global, board: &str, limit: u32) -> Result<Option<u32>, Fail> {
     let level = level(alloc, board)?;
     let outcome = solve(alloc, &level, limit)?;
     pushes_in(rt, alloc, &level, limit, &outcome)
 }
 
-/// The pushes of a level's solution that is found without a certificate, and None where none is.
-/// Asserts that the letters solve with as many pushes.
+/// Returns the pushes of a solution that is found without a certificate, or `None` if none is
+/// found. Asserts that the letters solve the level with as many pushes.
 fn found_pushes(
     rt: &impl Abort,
     alloc: Global,
@@ -98,7 +98,7 @@ fn found_pushes(
     }
 }
 
-/// Whether a limit is met.
+/// Returns whether a limit is met.
 fn meets(alloc: Global, board: &str, limit: u32) -> Result<bool, Fail> {
     let level = level(alloc, board)?;
     match solve(alloc, &level, limit)? {
@@ -122,8 +122,8 @@ pub(crate) const ZERKALO: &str = "\
  #####
 ";
 
-/// The fewest pushes pass a state that is first found with two pushes more: if depths were not
-/// lowered, the answer would have nine.
+/// The shortest solution passes a state that is first found with two pushes more. If depths were
+/// not lowered, the answer would be nine.
 const LOWERED: &str = "\
 #######
 ###--.#
@@ -142,7 +142,7 @@ fn fewest_pushes(rt: HostRuntime) -> Result<(), Fail> {
         (sketch::SOLVED, 10, Some(0)),
         (sketch::BOX_BEYOND_THE_GOAL, 10, None),
         (sketch::TWO_IN_A_ROW, 10, None),
-        // two of its boxes are never solved, were they alone
+        // two of its boxes can't be solved, even alone
         (sketch::PAIR_THAT_IS_LOST, 1, None),
         (sketch::ROOM_OF_TWO_ROWS, 100, Some(2)),
         (sketch::TWO_BOXES_FOR_ONE_GOAL, 1_000, None),
@@ -173,7 +173,7 @@ fn large_rooms(rt: HostRuntime) -> Result<(), Fail> {
     Ok(())
 }
 
-/// Why no answer is sought.
+/// Returns the fault of the call, if there is one.
 fn fault_of(alloc: Global, board: &str, limit: u32) -> Result<Option<SolveFault>, Fail> {
     let level = level(alloc, board)?;
     match solve(alloc, &level, limit) {
@@ -182,10 +182,10 @@ fn fault_of(alloc: Global, board: &str, limit: u32) -> Result<Option<SolveFault>
     }
 }
 
-/// Why the level that is open at the side is not solved.
+/// The fault of the level that is open at the side.
 const OPEN: SolveFault = SolveFault::Level(BoardFault::NotEnclosed(Spot { row: 1, col: 3 }));
 
-/// And why the level with a box outside is not.
+/// The fault of the level with a box outside.
 const STRAY: SolveFault = SolveFault::Level(BoardFault::BoxOutside(Spot { row: 1, col: 5 }));
 
 #[test]
@@ -208,7 +208,7 @@ fn refusals(rt: HostRuntime) -> Result<(), Fail> {
     Ok(())
 }
 
-/// A limit that is met stays met below, and the least one that is not is answered.
+/// If a limit is met, each lower one is met too. The least one that is not met has an answer.
 #[test]
 fn limits(rt: HostRuntime) -> Result<(), Fail> {
     assert!(rt; meets(rt.alloc(), sketch::ONE_PUSH, 1)?);
@@ -225,8 +225,8 @@ fn limits(rt: HostRuntime) -> Result<(), Fail> {
     Ok(())
 }
 
-/// How many pushes a level needs at least, as a certificate shows that has no more entries than the
-/// limit, and None where there is no solution.
+/// Returns the lower bound of a level, shown by a certificate with at most `limit` entries, or
+/// `None` if there is no solution.
 fn bound_of(rt: &impl Abort, alloc: Global, board: &str, limit: u32) -> Result<Option<u32>, Fail> {
     let level = level(alloc, board)?;
     let outcome = bound(alloc, &level, limit)?;
@@ -244,8 +244,8 @@ fn bound_of(rt: &impl Abort, alloc: Global, board: &str, limit: u32) -> Result<O
     pushes_in(rt, alloc, &level, limit, &outcome)
 }
 
-/// How many pushes a search shows at least that is cut off, without a certificate, and None where it
-/// is not cut off.
+/// Returns the lower bound of a search without a certificate that was cut off, or `None` if it was
+/// not cut off.
 fn found_bound(alloc: Global, board: &str, limit: u32) -> Result<Option<u32>, Fail> {
     let level = level(alloc, board)?;
     match find(alloc, &level, limit)? {
@@ -254,14 +254,14 @@ fn found_bound(alloc: Global, board: &str, limit: u32) -> Result<Option<u32>, Fa
     }
 }
 
-/// A search that is cut off shows what the start's prices do where the start alone waits, and the
-/// fewest pushes in the end.
+/// While the start alone is in the open list, a search that is cut off shows the lower bound of the
+/// start. In the end it shows the fewest pushes.
 #[test]
 fn bounds(rt: HostRuntime) -> Result<(), Fail> {
     for &(board, limit, pushes) in &[
         (sketch::CORRIDOR_OF_SIX_PUSHES, 1, Some(2)),
         (sketch::CORRIDOR_OF_SIX_PUSHES, 14, Some(6)),
-        // nothing waits where the start is barred
+        // nothing is in the open list if the start is barred
         (sketch::TWO_IN_A_ROW, 1, None),
         (sketch::PAIR_THAT_IS_LOST, 1, None),
     ] {
@@ -281,8 +281,8 @@ fn bounds(rt: HostRuntime) -> Result<(), Fail> {
     Ok(())
 }
 
-/// How many pushes a level needs at the least, as is known beside a solution with `best` pushes: those of
-/// a solution with fewer, or `best`; and None where the limit is met.
+/// Returns how many pushes a level needs at least, if a solution with `best` pushes is known: those
+/// of a solution with fewer, or `best`, or `None` if the limit is met.
 fn improved_pushes(
     rt: &impl Abort,
     alloc: Global,
@@ -334,8 +334,8 @@ fn improvements(rt: HostRuntime) -> Result<(), Fail> {
     Ok(())
 }
 
-/// How many pushes a certificate shows that a level needs beside a solution with `best` pushes. Asserts
-/// that it is accepted.
+/// Returns how many pushes a certificate shows that a level needs, if a solution with `best` pushes
+/// is known. Asserts that it is accepted.
 fn shown_pushes(
     rt: &impl Abort,
     alloc: Global,
@@ -385,7 +385,7 @@ fn certified_improvements(rt: HostRuntime) -> Result<(), Fail> {
     Ok(())
 }
 
-/// Whether an entry has a pattern of so many boxes as its reason.
+/// Returns whether the reason of some entry is a pattern of so many boxes.
 fn has_pattern_of(entries: &[Entry], count: usize) -> bool {
     for entry in entries {
         if let Reason::Pattern { members, .. } = &entry.reason {
@@ -397,7 +397,7 @@ fn has_pattern_of(entries: &[Entry], count: usize) -> bool {
     false
 }
 
-/// A start that two of its boxes lose is one entry, a pattern of these two.
+/// A start in which two boxes are lost is one entry, a pattern of these two.
 #[test]
 fn a_lost_pair_is_one_entry(rt: HostRuntime) -> Result<(), Fail> {
     let level = sketch::level(rt.alloc(), sketch::PAIR_THAT_IS_LOST)?;
@@ -409,7 +409,7 @@ fn a_lost_pair_is_one_entry(rt: HostRuntime) -> Result<(), Fail> {
     Ok(())
 }
 
-/// A push that loses three boxes, though no two of them, leads to a pattern of these three.
+/// A push that makes three boxes lost, though no two of them, leads to a pattern of these three.
 #[test]
 fn three_lost_boxes_are_a_pattern(rt: HostRuntime) -> Result<(), Fail> {
     let level = sketch::level(rt.alloc(), sketch::THREE_THAT_ARE_LOST)?;
@@ -426,8 +426,8 @@ fn three_lost_boxes_are_a_pattern(rt: HostRuntime) -> Result<(), Fail> {
     Ok(())
 }
 
-/// Without a certificate states are left out from which a box reaches no goal, so a limit suffices
-/// that is met where they are kept.
+/// Without a certificate, states in which a box reaches no goal are not kept. So a limit suffices
+/// that is met if they are kept.
 #[test]
 fn fewer_states(rt: HostRuntime) -> Result<(), Fail> {
     for &(board, limit, pushes) in &[

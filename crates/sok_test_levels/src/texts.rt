@@ -34,7 +34,7 @@ s 9 4 1 5
 end
 ";
 
-/// The bytes that are written of a certificate that is read.
+/// Reads a certificate and returns the bytes that are written for it.
 fn written(rt: &impl Abort, alloc: Global, text: &[u8]) -> Result<Vec<u8>, Fail> {
     let certificate = read(alloc, text)?;
     assert!(rt; fits(&certificate));
@@ -44,10 +44,10 @@ fn written(rt: &impl Abort, alloc: Global, text: &[u8]) -> Result<Vec<u8>, Fail>
 const SIX_PUSHES: &str =
     "sokoban-certificate 1\npushes 6\nx 0 4 1 5\nx 1 5 1 6\nb 2 6 1 7 4 0\nend\n";
 
-/// An entry of which all pushes were made.
+/// An entry that is barred because all pushes are made.
 const SPENT: &str = "sokoban-certificate 1\npushes 0\ns 0 1 1 2\nend\n";
 
-/// What is read is written with LF alone, and else with the same bytes.
+/// What is read is written with LF alone, and otherwise with the same bytes.
 #[test]
 fn texts_are_written_again(rt: HostRuntime) -> Result<(), Fail> {
     for &(text, again) in &[
@@ -125,7 +125,7 @@ const NO_ENTRIES: [&str; 30] = [
     "End\n",
 ];
 
-/// Lines that lack the end.
+/// Lines without the end.
 const NO_END: [&str; 7] = [
     "",
     "end\r",
@@ -136,7 +136,7 @@ const NO_END: [&str; 7] = [
     "b 0 0 1 1 1 0\nend ",
 ];
 
-/// Lines behind a pattern that has two inner positions, of which one is read.
+/// Lines after a pattern that has two inner positions, of which one was read.
 const NO_POSITIONS: [&str; 8] = [
     "end\n",
     "\n",
@@ -148,10 +148,10 @@ const NO_POSITIONS: [&str; 8] = [
     "x 1 10 2 11 012\nend\n",
 ];
 
-/// What of a pattern that has two inner positions may be cut off behind the first.
+/// Lines after the first of two inner positions of a pattern, which is cut off there.
 const NO_PATTERN_END: [&str; 4] = ["", "end", "x 1 10 2 11 12", "p"];
 
-/// Third lines that begin no pattern.
+/// Third lines that don't begin a pattern.
 const NO_PATTERNS: [&str; 6] = [
     "p 0 9 3 7 10 12 2 1 2\nend\n",
     "p 0 9 3 7 10 12 2 1 2 1000001\n",
@@ -161,7 +161,7 @@ const NO_PATTERNS: [&str; 6] = [
     "P 0 9 3 7 10 12 2 1 2 0\n",
 ];
 
-/// Asserts the fault of a text that is a front and what stands behind it.
+/// Asserts the fault of a text that consists of a front and a rest.
 fn assert_fault(
     rt: &impl Abort,
     alloc: Global,
@@ -176,10 +176,10 @@ fn assert_fault(
     Ok(())
 }
 
-/// Ends with something behind the first of them.
+/// Ends with something after the first of them.
 const ENDS_TWICE: [&str; 2] = ["end\nend\n", "b 0 0 1 1 1 0\nen\nend"];
 
-/// What stands behind the end.
+/// Lines with something after the end.
 const MORE: [&str; 3] = [
     "b 0 0 1 1 1 0\nend\n\n",
     "b 0 0 1 1 1 0\nend\r\n\r\n",
@@ -189,7 +189,7 @@ const MORE: [&str; 3] = [
 /// A pattern, which only the second version has.
 const IN_VERSION_1: [&str; 1] = ["p 0 9 3 7 10 12 2 1 2 0\nend\n"];
 
-/// The last position of a pattern, and a line behind it that is no entry.
+/// The last position of a pattern, and a line after it that is no entry.
 const BEHIND_PATTERN: [&str; 1] = ["x 1 10 2 11 12\nx 0 9 2 10 12 9\n"];
 
 /// The first two lines of each version, and those with the front of a pattern.

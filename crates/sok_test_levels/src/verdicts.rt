@@ -22,11 +22,11 @@ const SIX_PUSHES: Result<Claim, CertFault> = Ok(Claim::Pushes(6));
 
 const UNSOLVABLE: Result<Claim, CertFault> = Ok(Claim::Unsolvable);
 
-/// The lines of a certificate behind the first, and what comes of it.
+/// The lines of a certificate after the first, and the claim or fault that it has.
 type Case = (&'static str, Result<Claim, CertFault>);
 
 const ONE_PUSH: [Case; 11] = [
-    // a claim that goes on for longer than any
+    // a claim that is longer than any valid one
     (
         "pushes 00000000000000000000000000000000000000000000000000000000000000000000000000000001\n\
          b 0 0 1 1 1 0\nend\n",
@@ -92,7 +92,7 @@ const CORRIDOR_OF_SIX_PUSHES: [Case; 13] = [
         "pushes 6\r\nx 0 4 1 5\r\nx 1 5 1 6\nb 2 6 1 7 4 0\r\nend\r",
         Err(CertFault::Truncated),
     ),
-    // the text's fault comes before that of an entry
+    // a fault of the text comes before that of an entry
     (
         "pushes 6\nx 0 4 1 5\nx 1 5 1 6\nb 2 6 1 7 5 0\n",
         Err(CertFault::Truncated),
@@ -175,7 +175,7 @@ const CORRIDOR_OF_OTHER_PUSHES: [Case; 8] = [
         "pushes 2\nx 1 5 1 6\nx 0 4 1 5\ns 2 6 1 7\nend\n",
         TWO_PUSHES,
     ),
-    // a box with the player on one side of it only does not stand for the other side
+    // a box with the player on one side of it does not stand for the player on the other side
     (
         "\
 unsolvable
@@ -212,13 +212,13 @@ const ONE_PUSH_DOWN: [Case; 1] = [(
     Err(CertFault::OpenPush(0, 1, Dir::Down)),
 )];
 
-/// The claim that a text shows of a board, or its first fault.
+/// Returns the claim that a text shows for a board, or its first fault.
 pub(crate) fn judged(alloc: Global, board: &Board, text: &[u8]) -> Result<Claim, CertFault> {
     let certificate = read(alloc, text)?;
     Ok(check(alloc, board, &certificate)?.claim())
 }
 
-/// The same of a text that comes in pieces of so many bytes.
+/// Does the same for a text that comes in pieces of so many bytes.
 fn judged_in_pieces(
     alloc: Global,
     board: &Board,
@@ -253,7 +253,7 @@ pub(crate) fn judge_text(
     }
 }
 
-/// Judges the certificate of these lines behind the first.
+/// Judges the certificate with these lines after the first.
 fn judge_lines(
     rt: &impl Abort,
     alloc: Global,
@@ -276,7 +276,7 @@ fn judge(rt: &impl Abort, alloc: Global, rows: &str, cases: &[Case]) -> Result<(
     Ok(())
 }
 
-/// Levels of one push, and levels that are solved as they stand.
+/// Levels of one push, and levels that are solved at their start.
 fn judge_corridors(rt: &impl Abort, alloc: Global) -> Result<(), Fail> {
     judge(rt, alloc, sketch::ONE_PUSH, &ONE_PUSH)?;
     judge(rt, alloc, sketch::SOLVED, &SOLVED)?;
@@ -286,7 +286,7 @@ fn judge_corridors(rt: &impl Abort, alloc: Global) -> Result<(), Fail> {
     judge(rt, alloc, sketch::ONE_PUSH_DOWN, &ONE_PUSH_DOWN)
 }
 
-/// Levels that no letters solve.
+/// Levels without a solution.
 fn judge_unsolvable(rt: &impl Abort, alloc: Global) -> Result<(), Fail> {
     judge(rt, alloc, sketch::TWO_IN_A_ROW, &TWO_IN_A_ROW)?;
     judge(rt, alloc, sketch::BOX_BEYOND_THE_GOAL, &BOX_BEYOND_THE_GOAL)?;
@@ -320,7 +320,7 @@ fn certificates_of_levels(rt: HostRuntime) -> Result<(), Fail> {
     judge_other_pushes(&rt, rt.alloc())
 }
 
-/// Judges the front of a text of each length, of a certificate that ends behind 69 bytes.
+/// Judges the fronts of each length of a text whose certificate ends after 69 bytes.
 fn judge_each_front(rt: &impl Abort, alloc: Global, board: &Board, text: &[u8]) {
     for length in 0..=text.len() {
         let told = match length {
@@ -333,8 +333,8 @@ fn judge_each_front(rt: &impl Abort, alloc: Global, board: &Board, text: &[u8]) 
     }
 }
 
-/// A certificate that is cut off anywhere is refused. Only its last line may lack its end. Nothing
-/// may stand behind it, not even the same once more.
+/// A certificate that is cut off anywhere is refused. Only its last line may lack its line end.
+/// Nothing may follow it, not even the same certificate again.
 #[test]
 fn corridor_cut_at_each_length(rt: HostRuntime) -> Result<(), Fail> {
     let alloc = rt.alloc();

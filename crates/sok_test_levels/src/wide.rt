@@ -1,5 +1,5 @@
-//! Levels about the columns 63 and 64, between which a word of a bit row ends, and levels of 128 rows
-//! and 128 columns.
+//! Levels around the columns 63 and 64, between which a word of a bit row ends, and levels of 128
+//! rows and 128 columns.
 
 use crate::answers::{
     GOALS_IN_THREE_CORNERS, RING_OF_BOXES, SLANTED_ROOM, TWO_CHAMBERS, is_solved, is_unsolvable,
@@ -8,7 +8,7 @@ use sok_sketch::rooms::CORRIDOR_AROUND;
 use std::alloc::{AllocError, Global};
 use std::test::Fail;
 
-/// A board with so many columns of walls before it.
+/// Returns a board with so many columns of walls before it.
 fn moved(alloc: Global, board: &str, columns: usize) -> Result<String, AllocError> {
     let walls = "#".repeat(alloc, columns)?;
     let mut text = String::new(alloc);
@@ -20,8 +20,8 @@ fn moved(alloc: Global, board: &str, columns: usize) -> Result<String, AllocErro
     Ok(text)
 }
 
-/// Each square of a board comes to lie on either side of the two columns, and boxes are pushed along
-/// them and across.
+/// Each square of a board comes to be on either side of the two columns, and boxes are pushed along
+/// and across them.
 #[test]
 fn levels_about_two_columns(rt: HostRuntime) -> Result<(), Fail> {
     for columns in 57..64 {

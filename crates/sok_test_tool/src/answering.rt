@@ -33,7 +33,7 @@ pub(crate) enum Command<'a> {
 /// A command, what it writes, and its status or fault.
 pub(crate) type Row = (Command<'static>, &'static str, Result<u8, ToolFault>);
 
-/// A database as a book.
+/// Opens a database as a book.
 pub(crate) fn book_in<S: Alter + Drop>(
     alloc: Global,
     connection: Connection<S>,
@@ -47,13 +47,13 @@ pub(crate) fn book_in<S: Alter + Drop>(
     }
 }
 
-/// An empty book in memory.
+/// Returns an empty book in memory.
 pub(crate) fn empty_book(alloc: Global) -> Result<Book<MemStore>, Fail> {
     book_in(alloc, Connection::open_in_memory(alloc)?)
 }
 
-/// Works on a book. It passes on nothing of the engines' contracts, which no test needs: each test
-/// that called them by itself would be checked over all that they say.
+/// Runs a command on a book. It has none of the contracts of the engines, which no test needs: each
+/// test that called an engine by itself would be checked against all that it says.
 pub(crate) fn answer<S: Alter, W: Write>(
     alloc: Global,
     book: &mut Book<S>,
@@ -93,7 +93,7 @@ fn is_told<S: Alter>(alloc: Global, book: &mut Book<S>, row: Row) -> bool {
     answer(alloc, book, command, &mut out) == result && out.as_slice() == text.as_bytes()
 }
 
-/// The first command that tells something else of a book.
+/// Returns the first command whose status or output differs from its row.
 fn first_other_of<S: Alter>(
     alloc: Global,
     book: &mut Book<S>,
@@ -107,7 +107,7 @@ fn first_other_of<S: Alter>(
     None
 }
 
-/// The same, beginning with an empty book in memory.
+/// Runs the rows on an empty book in memory. Returns the first command that differs from its row.
 pub(crate) fn first_other(alloc: Global, rows: &[Row]) -> Result<Option<Command<'static>>, Fail> {
     let mut book = empty_book(alloc)?;
     Ok(first_other_of(alloc, &mut book, rows))

@@ -14,7 +14,7 @@ use std::alloc::{AllocError, Global};
 use std::process::Abort;
 use std::test::Fail;
 
-/// What comes of adding a board.
+/// Adds a board with a title. Returns its id or the fault.
 fn added(
     alloc: Global,
     book: &mut Book<MemStore>,
@@ -25,7 +25,7 @@ fn added(
     Ok(book.add(&level, title))
 }
 
-/// What is kept under an id.
+/// Returns the record with an id.
 fn kept(book: &mut Book<MemStore>, id: i64) -> Result<Record, BookFault> {
     book.get(id)
 }
@@ -34,13 +34,13 @@ fn title_of(book: &mut Book<MemStore>, id: i64) -> Result<Option<Vec<u8>>, BookF
     Ok(kept(book, id)?.title)
 }
 
-/// Whether a level has this title.
+/// Returns whether a level has this title.
 fn is_titled(book: &mut Book<MemStore>, id: i64, title: Option<&[u8]>) -> Result<bool, BookFault> {
     let kept = title_of(book, id)?;
     Ok(kept.as_deref() == title)
 }
 
-/// Adds a board with a title. Whether it has an id then, and that id has this title.
+/// Adds a board with a title. Returns whether it then has the id, and the id has the title `kept`.
 fn keeps(
     alloc: Global,
     book: &mut Book<MemStore>,
@@ -53,7 +53,7 @@ fn keeps(
     Ok(found == Ok(id) && is_titled(book, id, kept)?)
 }
 
-/// A title with blanks around it, and a line behind it.
+/// A title with blanks around it, and a second line after it.
 const WHOLE: &str = " \t A \t level \r\t\r\nmore";
 
 /// Adds boards with titles, one after the other.
@@ -76,7 +76,7 @@ fn the_first_title_is_kept_without_its_ends(rt: HostRuntime) -> Result<(), Fail>
     add_titled(&rt, alloc, &mut book)
 }
 
-/// A level with the digits of a number at its side.
+/// Returns a level with the digits of a number at its side.
 fn numbered(alloc: Global, number: u32) -> Result<String, AllocError> {
     let mut digits = String::new(alloc);
     let mut rest = number;
@@ -88,7 +88,7 @@ fn numbered(alloc: Global, number: u32) -> Result<String, AllocError> {
     format!(in alloc; "{wall}\n#@$.#{digits}#\n{wall}\n")
 }
 
-/// Makes a table of as many levels as a book may have.
+/// Makes a table with as many levels as a book may have.
 fn fill(alloc: Global, connection: &mut Connection<MemStore>) -> Result<(), Fail> {
     create(connection)?;
     for id in 1..=LEVEL_LIMIT {
@@ -98,14 +98,14 @@ fn fill(alloc: Global, connection: &mut Connection<MemStore>) -> Result<(), Fail
     Ok(())
 }
 
-/// The table of a full book.
+/// Returns the table of a full book.
 fn filled(alloc: Global) -> Result<Connection<MemStore>, Fail> {
     let mut connection = Connection::open_in_memory(alloc)?;
     fill(alloc, &mut connection)?;
     Ok(connection)
 }
 
-/// Adds a level to a full book, and one that is there.
+/// Adds a new level to a full book, and one that is in it.
 fn add_both(
     rt: &impl Abort,
     alloc: Global,
@@ -118,14 +118,14 @@ fn add_both(
     Ok(())
 }
 
-/// Adds a level to a full book, and the one of the number 7.
+/// Adds a new level to a full book, and the one with the number 7.
 fn add_to_full(rt: &impl Abort, alloc: Global, book: &mut Book<MemStore>) -> Result<(), Fail> {
     let there = numbered(alloc, 7)?;
     add_both(rt, alloc, book, there.as_str())
 }
 
-/// Adds a collection to a full book, of which the first level is there, the second has no player,
-/// and the third has no room. The lines of the first two are written.
+/// Adds a collection to a full book. Its first level is in the book, its second has no player, and
+/// for its third there is no room. The lines of the first two are written.
 fn add_collection(
     rt: &impl Abort,
     alloc: Global,
@@ -140,7 +140,7 @@ fn add_collection(
     Ok(())
 }
 
-/// The same where the lines can't be written, which is told.
+/// Does the same with an output that is full after ten bytes.
 fn add_untold(
     rt: &impl Abort,
     alloc: Global,
@@ -159,7 +159,7 @@ fn add_untold(
     Ok(())
 }
 
-/// Adds a collection whose third level has no room.
+/// Adds a collection with no room for its third level.
 fn add_three(rt: &impl Abort, alloc: Global, book: &mut Book<MemStore>) -> Result<(), Fail> {
     let there = numbered(alloc, 7)?;
     let more = numbered(alloc, 8)?;

@@ -11,14 +11,14 @@ use std::alloc::Global;
 use std::io::{Read, Write};
 use std::test::Fail;
 
-/// The text of a certificate, of which these are the lines behind the first.
+/// Returns the text of a certificate that has these lines after the first.
 fn certificate(alloc: Global, lines: &str) -> Result<String, Fail> {
     let mut text = String::from_str(alloc, "sokoban-certificate 1\n")?;
     text.push_str(lines)?;
     Ok(text)
 }
 
-/// Judges a certificate. It passes on nothing of the engine's contract, which no test needs.
+/// Judges a certificate. It has none of the engine's contract, which no test needs.
 fn checked<R: Read, C: Read, W: Write>(
     alloc: Global,
     input: &mut R,
@@ -29,8 +29,7 @@ fn checked<R: Read, C: Read, W: Write>(
     check_bytes(alloc, input, n, cert_input, out)
 }
 
-/// A level, the lines of a certificate behind the first, and the line that is written, with the
-/// status.
+/// A level, the lines of a certificate after the first, the line that is written, and the status.
 const ANSWERS: [(&str, &str, &str, u8); 14] = [
     (
         sketch::ONE_PUSH,
@@ -103,8 +102,8 @@ const ANSWERS: [(&str, &str, &str, u8); 14] = [
     ),
 ];
 
-/// Whether the certificate of these lines is answered so for the second level of a collection, of
-/// which the first is at fault.
+/// Returns whether a certificate with these lines gets this answer for the second level of a
+/// collection, whose first level is faulty.
 fn is_answered(
     rt: &HostRuntime,
     level: &str,
@@ -134,8 +133,8 @@ fn answers(rt: HostRuntime) -> Result<(), Fail> {
     Ok(())
 }
 
-/// Whether a level is refused by a fault, with nothing written, before a certificate is read whose
-/// second read fails.
+/// Returns whether a level is refused with this fault, and nothing is written. Only for
+/// `ReadFailed` is the certificate read, and its second read fails.
 fn is_refused(rt: &HostRuntime, boards: &str, n: usize, fault: ToolFault) -> bool {
     let mut cert_input = Source::new(b"no certificate", 2);
     let mut out = Vec::new(rt.alloc());
@@ -150,7 +149,7 @@ fn is_refused(rt: &HostRuntime, boards: &str, n: usize, fault: ToolFault) -> boo
     told == Err(fault) && out.is_empty() && cert_input.reads == reads
 }
 
-/// What stops the judgement before the certificate is read, and the failing read of one.
+/// Faults that come before the certificate is read, and a certificate whose read fails.
 #[test]
 fn faults_of_levels_and_boards(rt: HostRuntime) -> Result<(), Fail> {
     for &(boards, n, fault) in &[
@@ -202,8 +201,8 @@ fn faults_of_levels_and_boards(rt: HostRuntime) -> Result<(), Fail> {
     Ok(())
 }
 
-/// Whether a collection without end is read so often, in parts of a whole buffer, and is refused by
-/// a fault.
+/// Returns whether an endless collection is refused with this fault after `reads` reads, each of a
+/// whole buffer.
 fn is_read(rt: &HostRuntime, fails_at: u32, reads: u32, fault: ToolFault) -> bool {
     let mut input = Source::new(&[b'#'; 4096], fails_at);
     let mut out = Vec::new(rt.alloc());
@@ -211,7 +210,7 @@ fn is_read(rt: &HostRuntime, fails_at: u32, reads: u32, fault: ToolFault) -> boo
     told == Err(fault) && out.is_empty() && input.reads == reads
 }
 
-/// The same of a certificate.
+/// Does the same for an endless certificate.
 fn is_read_for_a_level(rt: &HostRuntime, reads: u32, fault: ToolFault) -> bool {
     let mut cert_input = Source::new(&[b'#'; 4096], 0);
     let mut out = Vec::new(rt.alloc());
@@ -225,7 +224,7 @@ fn is_read_for_a_level(rt: &HostRuntime, reads: u32, fault: ToolFault) -> bool {
     told == Err(fault) && out.is_empty() && cert_input.reads == reads
 }
 
-/// A collection that cannot be read, one without end, and a certificate without end.
+/// A collection that can't be read, an endless one, and an endless certificate.
 #[test]
 fn reads_that_fail_and_inputs_without_end(rt: HostRuntime) {
     assert!(rt; is_read(&rt, 2, 2, ToolFault::ReadFailed));
@@ -233,7 +232,7 @@ fn reads_that_fail_and_inputs_without_end(rt: HostRuntime) {
     assert!(rt; is_read_for_a_level(&rt, 65_537, ToolFault::TooMuch));
 }
 
-/// Whether a judgement stops at the write behind so many bytes, which goes wrong.
+/// Returns whether a judgement stops at the write after `taken` bytes, which fails.
 fn stops_behind(rt: &HostRuntime, cert: &str, taken: usize, failure: Failure) -> bool {
     let mut out = Sink::new(rt.alloc(), taken.saturating_add(1), failure);
     let told = checked(
@@ -246,7 +245,7 @@ fn stops_behind(rt: &HostRuntime, cert: &str, taken: usize, failure: Failure) ->
     told == Err(ToolFault::WriteFailed) && out.has(b"accepted at least 1 pushes\n", taken)
 }
 
-/// After a write that goes wrong there is no further one, though it would go well.
+/// After a write that fails there is no further one, though it would succeed.
 #[test]
 fn writes_that_fail_once(rt: HostRuntime) -> Result<(), Fail> {
     let text = certificate(rt.alloc(), "pushes 1\nb 0 0 1 1 1 0\nend\n")?;

@@ -12,7 +12,7 @@ use std::alloc::Global;
 use std::process::Abort;
 use std::test::Fail;
 
-/// That the room cannot be solved with fewer than two pushes.
+/// A certificate that the room can't be solved with fewer than two pushes.
 pub(crate) const TWO_PUSHES: &str = "sokoban-certificate 1\npushes 2\nb 0 6 1 5 2 0\nend\n";
 
 const NO_PUSHES: &str = "sokoban-certificate 1\npushes 0\ns 0 0 1 2\nend\n";
@@ -86,7 +86,7 @@ fn a_room_is_added_solved_and_proved(rt: HostRuntime) -> Result<(), Fail> {
     Ok(())
 }
 
-/// Lines that are stored, kept, passed over or refused, of which the last does not end.
+/// Lines that are stored, kept, skipped or refused. The last one has no line end.
 const LINES: &str = "\
 1 rlulldRurrdLulldRR
 1 ulldRurrdLulldRR\r
@@ -103,7 +103,7 @@ one ulldRR
  1 ulldRR
 1";
 
-/// What is told of them.
+/// What is written for these lines.
 const TOLD: &str = "\
 1 stored 4 18
 1 kept 4 18
@@ -201,7 +201,7 @@ fn faults_come_in_their_order(rt: HostRuntime) -> Result<(), Fail> {
             "1 id 1\n2 fault 3 NoPlayer\n3 id 2\n",
             Ok(0),
         ),
-        // a level that is there keeps its title
+        // a level that is in the book keeps its title
         (
             Command::Add("; B\n#####\n#@$.#\n#####\n"),
             "1 id 1\n",
@@ -238,7 +238,7 @@ fn faults_come_in_their_order(rt: HostRuntime) -> Result<(), Fail> {
             "1 3 5 1 - - untested A\n2 3 5 1 - - untested\n",
             Ok(0),
         ),
-        // levels of which nothing is known have no notes, and notes behind a level are no titles
+        // levels of which nothing is known have no notes, and notes after a level are no titles
         (
             Command::Solutions,
             "; A\n#####\n#@$.#\n#####\n\n#####\n#@.$#\n#####\n\n",
@@ -259,7 +259,7 @@ fn faults_come_in_their_order(rt: HostRuntime) -> Result<(), Fail> {
     Ok(())
 }
 
-/// Offers a solution whose answer cannot be written, and then once more.
+/// Offers a solution with an output that is too short for the answer, and then offers it again.
 fn offer_twice(rt: &impl Abort, alloc: Global, book: &mut Book<MemStore>) -> Result<(), Fail> {
     let mut out = Vec::new(alloc);
     answer(alloc, book, Command::Add(ROOM_OF_TWO_ROWS), &mut out)?;
@@ -274,7 +274,7 @@ fn offer_twice(rt: &impl Abort, alloc: Global, book: &mut Book<MemStore>) -> Res
     Ok(())
 }
 
-/// Offers two lines of which the second cannot be answered, and then both once more.
+/// Offers two lines with an output that is too short for the second answer, and then again.
 fn offer_lines_twice(
     rt: &impl Abort,
     alloc: Global,
@@ -296,7 +296,7 @@ fn offer_lines_twice(
     Ok(())
 }
 
-/// Settles a second level whose line cannot be written, and then once more.
+/// Settles two levels with an output that is too short for the second line, and then again.
 fn settle_twice(rt: &impl Abort, alloc: Global, book: &mut Book<MemStore>) -> Result<(), Fail> {
     let mut out = Vec::new(alloc);
     answer(alloc, book, Command::Add(BOX_BEYOND_THE_GOAL), &mut out)?;
@@ -314,7 +314,7 @@ fn settle_twice(rt: &impl Abort, alloc: Global, book: &mut Book<MemStore>) -> Re
     Ok(())
 }
 
-/// The answer of an offer cannot be written, and the offer stands; and so with a verdict.
+/// If the answer of an offer can't be written, the offer stands, and so does a verdict.
 #[test]
 fn a_command_stands_without_its_answer(rt: HostRuntime) -> Result<(), Fail> {
     let alloc = rt.alloc();
@@ -323,7 +323,7 @@ fn a_command_stands_without_its_answer(rt: HostRuntime) -> Result<(), Fail> {
     settle_twice(&rt, alloc, &mut book)
 }
 
-/// And so with a line of offers.
+/// If the answer of a line of offers can't be written, the line stands.
 #[test]
 fn a_line_stands_without_its_answer(rt: HostRuntime) -> Result<(), Fail> {
     let alloc = rt.alloc();

@@ -19,7 +19,7 @@ const MADE: [Row; 2] = [
     ("sok offer copies/book 1 r", "stored 1 1\n", "", 0),
 ];
 
-/// What is told of it, by its own name and by a link.
+/// What is shown of the book, by its own name and by a link.
 const SHOWN: [Row; 5] = [
     (
         "sok show copies/book 1",
@@ -48,7 +48,7 @@ const SHOWN: [Row; 5] = [
     ),
 ];
 
-/// The same where the first level has got another title.
+/// The same after the first level got another title.
 const CHANGED: [Row; 3] = [
     (
         "sok show copies/book",
@@ -70,7 +70,7 @@ const CHANGED: [Row; 3] = [
     ),
 ];
 
-/// And in files as a writer leaves them that is cut off.
+/// The same in files that a writer left when it was cut off.
 const CUT: [Row; 1] = [(
     "sok show copies/cut",
     "1 3 5 1 1 1 untested Begun\n2 4 6 1 - - untested The room\n",
@@ -80,7 +80,7 @@ const CUT: [Row; 1] = [(
 
 const NO_DATABASE: &str = "fault 32 Database\n";
 
-/// A database with a rollback journal, one of two names, a folder, and an empty file.
+/// A database with a rollback journal, one with two names, a folder, and an empty file.
 const OTHERS: [Row; 6] = [
     ("sok show copies/torn", "", NO_DATABASE, 5),
     ("sok offer copies/torn 1 R", "", NO_DATABASE, 5),
@@ -100,7 +100,7 @@ const FOREIGN: [Row; 6] = [
     ("sok show copies/songs", "", NO_DATABASE, 5),
 ];
 
-/// A book whose name is that of another's log, which is not made over it.
+/// A book with the name of another book's log. No book is made for which it would be the log.
 const LOG: [Row; 2] = [
     ("sok add copies/name copies/levels", "", NO_DATABASE, 5),
     (
@@ -118,13 +118,13 @@ fn make(rt: &HostRuntime) -> Result<Option<&'static str>, Fail> {
     Ok(first_other(rt, &MADE)?)
 }
 
-/// What the files of a database hold.
+/// Returns the bytes of the files of a database.
 fn files_of(rt: &HostRuntime, path: &str) -> Result<(Vec<u8>, Vec<u8>), Fail> {
     let log = format!(in rt.alloc(); "{path}-wal")?;
     Ok((fs::read(rt, path)?, fs::read(rt, log.as_str())?))
 }
 
-/// The first row of which something else is told, or that leaves other files of a database.
+/// Returns the first row whose answer differs, or "the files" if those of the database changed.
 fn first_changed(rt: &HostRuntime, path: &str, rows: &[Row]) -> Result<Option<&'static str>, Fail> {
     let before = files_of(rt, path)?;
     let other = first_other(rt, rows)?;
@@ -136,7 +136,7 @@ fn first_changed(rt: &HostRuntime, path: &str, rows: &[Row]) -> Result<Option<&'
     })
 }
 
-/// Sets who may write the book, and make files beside it.
+/// Sets the modes of the book's files and of their folder.
 fn set_modes(rt: &HostRuntime, file: u32, folder: u32) -> Result<(), Fail> {
     fs::set_permissions(rt, "copies/book", Permissions::from_mode(file))?;
     fs::set_permissions(rt, "copies/book-wal", Permissions::from_mode(file))?;
@@ -156,8 +156,8 @@ fn a_book_that_may_not_be_written(rt: HostRuntime) -> Result<(), Fail> {
     Ok(())
 }
 
-/// Gives the first level another title. The change stands in the log alone as long as the database
-/// is open.
+/// Gives the first level another title. The change is in the log alone as long as the database is
+/// open.
 fn begin<S: Alter>(connection: &mut Connection<S>) -> Result<(), Fail> {
     connection.execute("UPDATE level SET title = x'426567756e' WHERE id = 1", &[])?;
     Ok(())
@@ -170,15 +170,15 @@ fn cut(rt: &HostRuntime) -> Result<(), Fail> {
     Ok(())
 }
 
-/// Whether the change stands in the log alone.
+/// Returns whether the change is in the log alone.
 fn is_in_the_log(rt: &HostRuntime) -> Result<bool, Fail> {
     let (db, log) = files_of(rt, "copies/book")?;
     let title = b"Begun";
     Ok(place_of(db.as_slice(), title).is_none() && place_of(log.as_slice(), title).is_some())
 }
 
-/// Changes the book, and looks at it while that is in the log: the first row of which something else
-/// is told. The book is copied as it is then.
+/// Changes the book and reads it while the change is in the log. Returns the first row whose answer
+/// differs. Copies the book as it is then.
 fn look_meanwhile<S: Alter>(
     rt: &HostRuntime,
     connection: &mut Connection<S>,
@@ -191,8 +191,8 @@ fn look_meanwhile<S: Alter>(
     first_changed(rt, "copies/book", &CHANGED)
 }
 
-/// The same, and the connection is closed then. It is one to a store of any kind, so that the
-/// contracts of its calls are read once, and not for the store that is a file.
+/// Does the same and closes the connection. It takes a store of any kind, so that the contracts of
+/// its calls are read once, and not for the store in a file.
 fn look_while_open<S: Alter + Drop>(
     rt: &HostRuntime,
     mut connection: Connection<S>,
@@ -214,7 +214,7 @@ fn a_book_that_another_has_open(rt: HostRuntime) -> Result<(), Fail> {
     Ok(())
 }
 
-/// Makes what is no book of its own.
+/// Makes the files of `OTHERS`.
 fn make_others(rt: &HostRuntime) -> Result<(), Fail> {
     fs::copy(rt, "copies/book", "copies/torn")?;
     fs::write(rt, "copies/torn-journal", "a page")?;
@@ -246,7 +246,7 @@ fn make_songs<S: Alter>(connection: &mut Connection<S>) -> Result<(), Fail> {
     Ok(())
 }
 
-/// The same, and the connection is closed then.
+/// Does the same and closes the connection.
 fn make_songs_and_close<S: Alter + Drop>(mut connection: Connection<S>) -> Result<(), Fail> {
     make_songs(&mut connection)
 }

@@ -1,11 +1,11 @@
-//! Readers and writers that fail, or that give and take little.
+//! Readers and writers that fail, or that return and take little.
 
 use std::alloc::Global;
 use std::io;
 use std::io::{Read, Write};
 
-/// Gives the same bytes at each read, counts the reads, and fails at the read of one number,
-/// counted from 1. With 0 it never fails.
+/// Returns the same bytes at each read, and counts the reads. The read with the number `fails_at`,
+/// counted from 1, fails; with 0 none does.
 #[derive(Drop)]
 pub(crate) struct Source {
     pub bytes: &'static [u8],
@@ -35,7 +35,7 @@ impl Read for Source {
     }
 }
 
-/// How a write goes wrong.
+/// How a write fails.
 #[derive(Clone, Copy)]
 pub(crate) enum Failure {
     /// It fails.
@@ -44,8 +44,8 @@ pub(crate) enum Failure {
     Nothing,
 }
 
-/// Takes one byte at each write, and counts the writes. The write of one number, counted from 1,
-/// goes wrong, and those after it go well again.
+/// Takes one byte at each write, and counts the writes. The write with one number, counted from 1,
+/// fails, and those after it succeed.
 #[derive(Drop)]
 pub(crate) struct Sink {
     pub taken: Vec<u8>,
@@ -64,7 +64,7 @@ impl Sink {
         }
     }
 
-    /// Whether it took so many bytes of a text, and was then asked once more.
+    /// Returns whether it took so many bytes of a text, and was then written to once more.
     pub(crate) fn has(&self, text: &[u8], taken: usize) -> bool {
         self.writes == taken.saturating_add(1) && text.get(..taken) == Some(self.taken.as_slice())
     }

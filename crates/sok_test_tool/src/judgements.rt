@@ -15,13 +15,13 @@ use sok_text::lurd::read_lurd;
 use std::alloc::Global;
 use std::test::Fail;
 
-/// What is told of letters that are offered: their pushes and moves.
+/// Returns the pushes and moves of letters that are offered, or the fault.
 fn judged(alloc: Global, room: &Level, letters: &[Dir]) -> Result<(u64, u64), BookFault> {
     let tally = judge_letters(alloc, room, letters)?;
     Ok((tally.pushes, tally.moves))
 }
 
-/// Whether letters are written as this text.
+/// Returns whether letters are written as this text.
 fn are_written(alloc: Global, room: &Level, letters: &[Dir], text: &str) -> Result<bool, Memory> {
     Ok(lurd_of(alloc, room, letters)?.as_str() == text)
 }
@@ -45,7 +45,7 @@ fn letters_are_judged_and_written(rt: HostRuntime) -> Result<(), Fail> {
     Ok(())
 }
 
-/// What is told of a certificate for a level with so many pushes of its best.
+/// Judges a certificate for a level whose best has `best` pushes.
 fn proved(alloc: Global, board: &Board, best: Option<u64>) -> Result<Claim, BookFault> {
     let text = b"sokoban-certificate 1\npushes 2\nb 0 6 1 5 2 0\nend\n";
     judge_proof(alloc, board, best, text.as_slice())

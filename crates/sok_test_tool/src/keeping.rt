@@ -1,4 +1,4 @@
-//! The commands on a book in a file, which is opened anew by each.
+//! The commands on a book in a file, which each of them opens anew.
 
 use crate::rows::{MAKE_FAILED, OPEN_FAILED, first_other, prepare};
 use sok_engine::input::INPUT_LIMIT;
@@ -7,10 +7,10 @@ use std::alloc::Global;
 use std::fs;
 use std::test::Fail;
 
-/// What is told of a database that can't be opened.
+/// What is written for a database that can't be opened.
 const NO_DATABASE: &str = "fault 32 Database\n";
 
-/// Commands on a book that is not there, of which none makes one.
+/// Commands on a book that does not exist. None of them makes one.
 const ABSENT: [Row; 7] = [
     ("sok export books/book", "", NO_DATABASE, 5),
     ("sok show books/book 1", "", NO_DATABASE, 5),
@@ -22,7 +22,7 @@ const ABSENT: [Row; 7] = [
 ];
 
 const COMMANDS: [Row; 28] = [
-    // the file is made, of a collection without levels
+    // the file is made, though the collection has no levels
     ("sok add books/book books/cert", "", "", 0),
     ("sok export books/book", "", "", 0),
     ("sok show books/book", "", "", 0),
@@ -92,20 +92,20 @@ const COMMANDS: [Row; 28] = [
         "",
         0,
     ),
-    // the letters are those of the input
+    // the letters are read from the input
     ("sok offer books/book 2 -", "stored 2 6\n", "", 0),
     // the text is read before the level is looked for, and the file is opened before both
     ("sok offer books/book 9 x", "", "fault 11 BadLetter 0\n", 3),
     ("sok prove books/book 9 books/none", "", OPEN_FAILED, 5),
     ("sok offers books/book books/none", "", OPEN_FAILED, 5),
-    // no line of a certificate is an offer, and each is answered
+    // no line of a certificate is an offer, and each line has an answer
     (
         "sok offers books/book books/cert",
         "0 fault 11 BadLetter 1\n0 fault 11 BadLetter 1\n0 fault 11 BadLetter 1\n0 fault 30 NoLevel\n",
         "",
         3,
     ),
-    // no database, and none can be made
+    // there is no database, and none can be made
     ("sok export books/cert", "", NO_DATABASE, 5),
     ("sok show books/none/book 1", "", NO_DATABASE, 5),
     // the database is opened before the file
@@ -130,7 +130,7 @@ fn a_book_in_a_file(rt: HostRuntime) -> Result<(), Fail> {
 }
 
 /// A room of two pushes, in which the box comes to four places; a box that is lost; a corridor of
-/// six pushes, with seven places; and a level that is solved as it stands.
+/// six pushes, with seven places; and a level that is solved at its start.
 const UNSETTLED: &str = "\
 ######
 #    #
@@ -150,7 +150,8 @@ const UNSETTLED: &str = "\
 #####
 ";
 
-/// A book is settled: within four states, and from a level on; then what is left; then nothing is.
+/// A book is settled within four states, from one level on; then the rest of it; then nothing is
+/// left.
 const SETTLES: [Row; 15] = [
     (
         "sok add settles/book settles/unsettled",
@@ -184,7 +185,7 @@ const SETTLES: [Row; 15] = [
         "",
         0,
     ),
-    // a best with more pushes goes, and one with as many stays
+    // a best with more pushes is replaced, and one with as many stays
     (
         "sok offer settles/book 1 rlulldRurrdLulldRR",
         "stored 4 18\n",
@@ -209,7 +210,7 @@ const SETTLES: [Row; 15] = [
         "",
         0,
     ),
-    // a best that needs as many pushes as its first state shows is proved by one state
+    // a best with as many pushes as the lower bound of the start is proved by one state
     ("sok offer settles/book 3 RRRRRR", "stored 6 6\n", "", 0),
     (
         "sok settle settles/book --limit 1",
@@ -236,7 +237,7 @@ fn levels_of_a_book_are_settled(rt: HostRuntime) -> Result<(), Fail> {
     Ok(())
 }
 
-/// The same with certificates: of each level that is settled there is one, and of no other.
+/// The same with certificates: each level that is settled has one, and no other level has.
 const CERTIFIES: [Row; 19] = [
     (
         "sok add kept/book kept/unsettled",
@@ -244,7 +245,7 @@ const CERTIFIES: [Row; 19] = [
         "",
         0,
     ),
-    // where none can be kept the level is as it was
+    // if no certificate can be kept, the level stays as it was
     ("sok settle kept/book --certs kept/none", "", MAKE_FAILED, 5),
     (
         "sok show kept/book 1",
@@ -291,7 +292,7 @@ const CERTIFIES: [Row; 19] = [
         0,
     ),
     ("sok settle kept/book --certs kept", "", "", 0),
-    // a whole certificate is not replaced by another, and nothing else is written over
+    // a whole certificate is not replaced by another one, and no other file is overwritten
     (
         "sok add kept/other kept/levels",
         "1 id 1\n2 fault 4 ManyPlayers\n3 fault 8 TooFewGoals\n4 id 2\n",
@@ -359,24 +360,24 @@ const TOO_MUCH: &str = "fault 52 TooMuch\n";
 const UNREADABLE: [Row; 8] = [
     ("sok show faulty/book 1", "", BAD_BOOK, 5),
     ("sok offer faulty/book 1 R", "", BAD_BOOK, 5),
-    // the rows are read before the file is
+    // the rows of the book are read before the file
     ("sok add faulty/book faulty/large", "", BAD_BOOK, 5),
     ("sok list faulty/large", "", TOO_MUCH, 3),
     ("sok check faulty/large 1 faulty/cert", "", TOO_MUCH, 3),
     ("sok replay faulty/levels 1 R", "solved 1 1\n", "", 0),
-    // a database whose making was cut off, which is made anew
+    // a database whose making was cut off, which is then made anew
     ("sok show faulty/half 1", "", NO_DATABASE, 5),
     ("sok add faulty/half faulty/cert", "", "", 0),
 ];
 
-/// A file of a byte more than a collection may have.
+/// Makes a file with one byte more than a collection may have.
 fn make_large(rt: &HostRuntime, alloc: Global) -> Result<(), Fail> {
     let bytes = vec![in alloc; b'#'; INPUT_LIMIT + 1]?;
     fs::write(rt, "faulty/large", bytes.as_slice())?;
     Ok(())
 }
 
-/// Where a text stands in bytes.
+/// Returns the place of a text in bytes.
 pub(crate) fn place_of(bytes: &[u8], text: &[u8]) -> Option<usize> {
     for place in 0..bytes.len() {
         if bytes[place..].starts_with(text) {
@@ -386,7 +387,7 @@ pub(crate) fn place_of(bytes: &[u8], text: &[u8]) -> Option<usize> {
     None
 }
 
-/// Turns the first letter of the best in the file of the book, so that it does not solve its level.
+/// Changes the first letter of the best in the book's file, so that it does not solve its level.
 fn turn_a_letter(rt: &HostRuntime) -> Result<(), Fail> {
     let mut bytes = fs::read(rt, "faulty/book")?;
     if let Some(place) = place_of(bytes.as_slice(), b"ulldRR") {

@@ -10,14 +10,14 @@ use std::alloc::Global;
 use std::process::Abort;
 use std::test::Fail;
 
-/// What is told of a text that is offered.
+/// Offers a text. Returns what is written.
 fn told(alloc: Global, book: &mut Book<MemStore>, text: &str) -> Result<Vec<u8>, ToolFault> {
     let mut out = Vec::new(alloc);
     answer(alloc, book, Command::Offer(1, text), &mut out)?;
     Ok(out)
 }
 
-/// Whether a text is stored, and this line is told of it.
+/// Returns whether a text is stored, with this line.
 fn stores(
     alloc: Global,
     book: &mut Book<MemStore>,
@@ -28,7 +28,7 @@ fn stores(
     Ok(told.as_slice() == line.as_bytes())
 }
 
-/// Whether the room is shown with a best of a million letters.
+/// Returns whether the room is shown with a best of a million letters.
 fn shows(alloc: Global, book: &mut Book<MemStore>, letters: &str) -> Result<bool, ToolFault> {
     let mut shown = Vec::new(alloc);
     answer(alloc, book, Command::Show(1), &mut shown)?;
@@ -38,7 +38,7 @@ fn shows(alloc: Global, book: &mut Book<MemStore>, letters: &str) -> Result<bool
     Ok(shown.as_slice() == whole.as_bytes())
 }
 
-/// A room in a book.
+/// Returns a book with a room.
 fn room(alloc: Global) -> Result<Book<MemStore>, Fail> {
     let mut book = empty_book(alloc)?;
     let mut out = Vec::new(alloc);

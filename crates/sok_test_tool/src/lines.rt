@@ -5,12 +5,12 @@ use sok_words::job::{Job, JobRefused};
 use sok_words::words::job;
 use std::test::Fail;
 
-/// What is asked for by the words of a line, which blanks separate.
+/// Reads the words of a line, which are separated by blanks.
 fn read(rt: &HostRuntime, line: &str) -> Result<Result<Job, JobRefused>, Fail> {
     Ok(job(rt.alloc(), &words(rt.alloc(), line)?))
 }
 
-/// Whether a line asks for this job.
+/// Returns whether a line means this job.
 fn asks_for(rt: &HostRuntime, line: &str, asked: &str) -> Result<bool, Fail> {
     match read(rt, line)? {
         Ok(job) => Ok(format!(in rt.alloc(); "{job:?}")?.as_str() == asked),
@@ -18,7 +18,7 @@ fn asks_for(rt: &HostRuntime, line: &str, asked: &str) -> Result<bool, Fail> {
     }
 }
 
-/// Each form, and what it asks for.
+/// Each form, and the job that it means.
 #[test]
 fn reads_each_form(rt: HostRuntime) -> Result<(), Fail> {
     for &(line, asked) in &[
@@ -79,7 +79,7 @@ fn reads_each_form(rt: HostRuntime) -> Result<(), Fail> {
     Ok(())
 }
 
-/// Whether a line asks for nothing, with this status and this part of what is printed.
+/// Returns whether a line means no job, with this status and this part of what is printed.
 fn is_refused(rt: &HostRuntime, line: &str, status: u8, text: &str) -> Result<bool, Fail> {
     match read(rt, line)? {
         Ok(_) => Ok(false),
@@ -87,7 +87,7 @@ fn is_refused(rt: &HostRuntime, line: &str, status: u8, text: &str) -> Result<bo
     }
 }
 
-/// Lines that ask for nothing, with their status and a part of the text that is printed.
+/// Lines that mean no job, with their status and a part of the text that is printed.
 #[test]
 fn refuses_what_it_does_not_know(rt: HostRuntime) -> Result<(), Fail> {
     for &(line, status, text) in &[

@@ -1,5 +1,6 @@
-//! A book that an earlier program wrote, which read no run lengths, and levels of at most 64 rows, 64
-//! columns and 1,024 squares: each record is as that program showed it, and so is the whole.
+//! A book that an earlier program wrote. That program read no run lengths, and levels of at most 64
+//! rows, 64 columns and 1,024 squares. Each record is shown as that program showed it, and so is
+//! the whole book.
 
 use crate::rows::first_other;
 use sok_sketch::tutorial::Row;
@@ -7,7 +8,7 @@ use std::alloc::{AllocError, Global};
 use std::fs;
 use std::test::Fail;
 
-/// The bytes of its file but for long runs of zeros: each part behind its place.
+/// The bytes of its file without long runs of zeros: each part with its place.
 const PARTS: [(usize, &[u8]); 11] = [
     (0, b"SQLite format 3\0\x10\0\x02\x02\0@  "),
     (31, b"\x03"),
@@ -441,7 +442,7 @@ fn a_book_of_an_earlier_program(rt: HostRuntime) -> Result<(), Fail> {
     Ok(())
 }
 
-/// The bytes of the file.
+/// Returns the bytes of the file.
 fn file(alloc: Global) -> Result<Vec<u8>, AllocError> {
     let mut bytes = Vec::new(alloc);
     for &(place, part) in &PARTS {

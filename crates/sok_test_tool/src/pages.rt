@@ -16,7 +16,7 @@ const ROOM: &str = "######\n#    #\n# $@.#\n######\n";
 
 const UNTITLED: &str = "#####\n#@$.#\n#####\n";
 
-/// A solution of the room.
+/// Returns a solution of the room.
 fn best(alloc: Global) -> Result<Best, LurdFault> {
     Ok(Best {
         letters: read_lurd(alloc, b"ulldrr")?,
@@ -25,7 +25,7 @@ fn best(alloc: Global) -> Result<Best, LurdFault> {
     })
 }
 
-/// The room with its best solution, which is proved.
+/// Returns the room with its best solution, which is proved.
 fn room(alloc: Global) -> Result<Record, Fail> {
     Ok(Record {
         id: 1,
@@ -36,7 +36,7 @@ fn room(alloc: Global) -> Result<Record, Fail> {
     })
 }
 
-/// A level of which nothing is known.
+/// Returns a level of which nothing is known.
 fn untitled(alloc: Global) -> Result<Record, Fail> {
     Ok(Record {
         id: 2,
@@ -47,7 +47,7 @@ fn untitled(alloc: Global) -> Result<Record, Fail> {
     })
 }
 
-/// Both records.
+/// Returns both records.
 fn records(alloc: Global) -> Result<Vec<Record>, Fail> {
     let mut records = Vec::new(alloc);
     records.push(room(alloc)?)?;
@@ -55,12 +55,12 @@ fn records(alloc: Global) -> Result<Vec<Record>, Fail> {
     Ok(records)
 }
 
-/// Whether a record is shown as this text.
+/// Returns whether a record is shown as this text.
 fn is_shown(alloc: Global, kept: &Record, text: &str) -> Result<bool, Memory> {
     Ok(shown_text(alloc, kept)?.as_slice() == text.as_bytes())
 }
 
-/// Asserts that each is shown as its rows and these lines.
+/// Asserts that each record is shown as its rows and these lines.
 fn assert_shown(rt: &impl Abort, alloc: Global, records: &[Record]) -> Result<(), Fail> {
     for (kept, text) in records.iter().zip([
         "######\n#    #\n# $@.#\n######\ntitle A room\nbest 2 6 ulldRR\nverdict optimal\n",
@@ -71,7 +71,7 @@ fn assert_shown(rt: &impl Abort, alloc: Global, records: &[Record]) -> Result<()
     Ok(())
 }
 
-/// Whether both are exported with these notes behind the first, which are those of its solution, or
+/// Returns whether both are exported, with these notes after the first: those of its solution, or
 /// none.
 fn are_exported(alloc: Global, records: &[Record], notes: &str) -> Result<bool, Fail> {
     let told = export_text(alloc, records, !notes.is_empty())?;
@@ -79,12 +79,12 @@ fn are_exported(alloc: Global, records: &[Record], notes: &str) -> Result<bool, 
     Ok(told.as_slice() == whole.as_bytes())
 }
 
-/// Whether each is told in its line of a text.
+/// Returns whether the overview of both has these lines.
 fn are_told(alloc: Global, records: &[Record], lines: &str) -> Result<bool, Fail> {
     Ok(overview_text(alloc, records)?.as_slice() == lines.as_bytes())
 }
 
-/// Asserts what texts are made of both.
+/// Asserts the texts of both records.
 fn assert_texts(rt: &impl Abort, alloc: Global, records: &[Record]) -> Result<(), Fail> {
     for &notes in &["", "Solution: ulldRR\nPushes: 2 optimal\n"] {
         assert!(rt; are_exported(alloc, records, notes)?, "{notes}");

@@ -17,7 +17,7 @@ fn played<R: Read>(rt: &HostRuntime, input: &mut R) -> Result<Ended, AllocError>
     Ok(Ended { status, out, err })
 }
 
-/// Two texts, one behind the other.
+/// Joins two texts.
 fn joined(alloc: Global, front: &str, behind: &str) -> Result<String, AllocError> {
     let mut text = String::from_str(alloc, front)?;
     text.push_str(behind)?;
@@ -31,8 +31,8 @@ const TWO_LEVELS: &str = "First\n\n#####\n#@$.#\n#####\n\n####\n#@$#\n####";
 const TOO_WIDE: &str =
     "#@$.#\n#################################################################################################################################\n";
 
-/// A text with the end of its line, a collection, and the line that is written with the status: on
-/// the output, or where the status is 3 on the error stream.
+/// A text with its line end and a collection; the line that is written, and the status. The line is
+/// on the output, or on the error stream if the status is 3.
 type Play = (&'static str, &'static str, &'static str, u8);
 
 const PLAYS: [Play; 21] = [
@@ -70,7 +70,7 @@ const PLAYS: [Play; 21] = [
     ("", "", "fault 15 NoSuchLevel\n", 3),
     ("ulldRR", "", "fault 15 NoSuchLevel\n", 3),
     ("ulx\n", "No level\n", "fault 15 NoSuchLevel\n", 3),
-    // the level is at fault, and so is the text
+    // both the level and the text are faulty
     ("x\n", sketch::TWO_PLAYERS, "fault 4 ManyPlayers\n", 3),
     ("r\n", sketch::NO_PLAYER, "fault 3 NoPlayer\n", 3),
     ("r\n", sketch::NO_BOX, "fault 5 NoBox\n", 3),
@@ -92,7 +92,7 @@ const PLAYS: [Play; 21] = [
     ("u u\n", sketch::ROOM_OF_TWO_ROWS, "fault 12 Blocked 1\n", 3),
 ];
 
-/// Whether a text, and what follows it, are answered so.
+/// Returns whether a text, and what follows it, get this answer.
 fn is_answered(
     rt: &HostRuntime,
     text: &str,
@@ -134,7 +134,7 @@ fn a_million_letters_and_no_more(rt: HostRuntime) -> Result<(), Fail> {
     Ok(())
 }
 
-/// Whether an input without end is read so often, and is answered by this line.
+/// Returns whether an endless input is read so often, and gets this line.
 fn is_read(
     rt: &HostRuntime,
     fails_at: u32,
@@ -160,7 +160,7 @@ fn reads_that_fail_and_inputs_without_end(rt: HostRuntime) -> Result<(), Fail> {
     Ok(())
 }
 
-/// Whether the program stops at the write behind so many bytes, which goes wrong.
+/// Returns whether the program stops at the write after `taken` bytes, which fails.
 fn stops_behind(rt: &HostRuntime, input: &str, taken: usize, failure: Failure) -> bool {
     let mut out = Sink::new(rt.alloc(), taken.saturating_add(1), failure);
     let mut err = Vec::new(rt.alloc());
@@ -170,7 +170,7 @@ fn stops_behind(rt: &HostRuntime, input: &str, taken: usize, failure: Failure) -
         && out.has(b"solved 2 6\n", taken)
 }
 
-/// After a write that goes wrong there is no further one, though it would go well.
+/// After a write that fails there is no further one, though it would succeed.
 #[test]
 fn writes_that_fail_once(rt: HostRuntime) -> Result<(), Fail> {
     let input = joined(rt.alloc(), "ulldRR\n", sketch::ROOM_OF_TWO_ROWS)?;

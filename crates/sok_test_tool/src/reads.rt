@@ -20,7 +20,7 @@ enum Reading {
     Prove(&'static str),
 }
 
-/// Lets a command read a byte at a time, and fails one read, counted from 1, or none.
+/// Runs a command with an input of a byte per read. One read, counted from 1, fails, or none.
 fn read(
     alloc: Global,
     book: &mut Book<MemStore>,
@@ -40,14 +40,14 @@ fn read(
     }
 }
 
-/// What the book shows of its first level: nothing, where it has none.
+/// Returns what the book shows of its first level, or nothing if it has none.
 fn shown(alloc: Global, book: &mut Book<MemStore>) -> Vec<u8> {
     let mut out = Vec::new(alloc);
     let _ = answer(alloc, book, Command::Show(1), &mut out);
     out
 }
 
-/// Whether this is told and written where one read of a command fails, or none.
+/// Returns whether a command has this result and output if one of its reads fails, or none.
 fn is_told(
     alloc: Global,
     book: &mut Book<MemStore>,
@@ -60,8 +60,8 @@ fn is_told(
     read(alloc, book, reading, fails_at, &mut out) == told && out.as_slice() == written
 }
 
-/// Asserts that a command is refused, with nothing written and the book as before, if any of its
-/// reads fails, and that it writes this if none does.
+/// Asserts that a command is refused if any of its reads fails, with nothing written and the book
+/// as before, and that it writes this if none fails.
 fn fail_each_read(
     rt: &impl Abort,
     alloc: Global,

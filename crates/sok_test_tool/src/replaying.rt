@@ -76,7 +76,7 @@ const DRAWINGS: [Row; 11] = [
     ("sok draw draws/levels 1 x", "", "fault 11 BadLetter 0\n", 3),
     ("sok draw draws/levels 2", "", "fault 4 ManyPlayers\n", 3),
     ("sok draw draws/levels 0", "", "fault 15 NoSuchLevel\n", 3),
-    // the level is at fault, and so is the text
+    // both the level and the text are faulty
     ("sok draw draws/levels 5 x", "", "fault 15 NoSuchLevel\n", 3),
     ("sok draw draws/none 1", "", OPEN_FAILED, 5),
 ];

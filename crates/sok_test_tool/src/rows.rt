@@ -1,4 +1,4 @@
-//! Command lines on the files of a folder, and what the program tells of each.
+//! Command lines on the files of a folder, and what the program writes for each.
 
 use sok_files::notes::Notes;
 use sok_files::watched::Watched;
@@ -9,10 +9,10 @@ use std::fs;
 use std::io::{Read, Write};
 use std::test::Fail;
 
-/// What is told of a file that can't be opened.
+/// What is written for a file that can't be opened.
 pub(crate) const OPEN_FAILED: &str = "fault 50 ReadFailed\n";
 
-/// What is told of a file that can't be made.
+/// What is written for a file that can't be made.
 pub(crate) const MAKE_FAILED: &str = "fault 51 WriteFailed\n";
 
 /// Four levels: one of one push, a faulty one, one with fewer goals than boxes, and a room.
@@ -54,7 +54,7 @@ pub(crate) fn put(rt: &HostRuntime, folder: &str, name: &str, text: &str) -> Res
     Ok(())
 }
 
-/// The words of a line, which blanks separate.
+/// Returns the words of a line, which are separated by blanks.
 pub(crate) fn words(alloc: Global, line: &str) -> Result<Vec<String>, AllocError> {
     let mut words = Vec::new(alloc);
     for word in line.split(' ') {
@@ -63,8 +63,8 @@ pub(crate) fn words(alloc: Global, line: &str) -> Result<Vec<String>, AllocError
     Ok(words)
 }
 
-/// Runs the program. It passes on nothing of the program's contract, which no test needs: each test
-/// that called it by itself would be checked over all that it says.
+/// Runs the program. It has none of the program's contract, which no test needs: each test that
+/// called the program by itself would be checked against all that it says.
 pub(crate) fn run_watched<R: Read, W: Write, E: Write>(
     watched: &Watched<'_, HostRuntime>,
     words: &[String],
@@ -75,7 +75,7 @@ pub(crate) fn run_watched<R: Read, W: Write, E: Write>(
     run(watched, words, input, out, err)
 }
 
-/// Runs it, and tells nothing of what was noted.
+/// Runs the program without reporting what was noted.
 pub(crate) fn run_on<R: Read, W: Write, E: Write>(
     rt: &HostRuntime,
     words: &[String],
@@ -86,7 +86,7 @@ pub(crate) fn run_on<R: Read, W: Write, E: Write>(
     run_watched(&Watched::new(rt, &Notes::new()), words, input, out, err)
 }
 
-/// What the program leaves behind.
+/// What a run of the program leaves.
 #[derive(Drop)]
 pub(crate) struct Ended {
     pub(crate) status: u8,
@@ -95,7 +95,8 @@ pub(crate) struct Ended {
 }
 
 impl Ended {
-    /// Whether it ended so, with these texts on the output and the error stream.
+    /// Returns whether it ended with this status, and these texts on the output and the error
+    /// stream.
     pub(crate) fn told(&self, out: &str, err: &str, status: u8) -> bool {
         self.status == status
             && self.out.as_slice() == out.as_bytes()
@@ -113,7 +114,7 @@ pub(crate) fn ran(rt: &HostRuntime, line: &str) -> Result<Ended, AllocError> {
     Ok(Ended { status, out, err })
 }
 
-/// The first line of which the program tells something else.
+/// Returns the first line for which the program writes something else.
 pub(crate) fn first_other(
     rt: &HostRuntime,
     rows: &[Row],

@@ -5,8 +5,8 @@ use sok_sketch::tutorial::Row;
 use std::fs;
 use std::test::Fail;
 
-/// A certificate that is written is accepted. Where there is none, its file is emptied, but never
-/// that of the collection, by whatever name.
+/// A certificate that is written is accepted. If there is none, its file is emptied, but never the
+/// file of the collection, by any name.
 const SOLVES: [Row; 24] = [
     (
         "sok solve solves/levels 1 --cert solves/levels",

@@ -34,7 +34,7 @@ fn read(rt: &impl Abort, conn: &mut Connection<MemStore>) -> Result<(), Fail> {
     Ok(())
 }
 
-/// One after the other.
+/// Makes the table and reads it.
 fn write_and_read(rt: &impl Abort, conn: &mut Connection<MemStore>) -> Result<(), Fail> {
     write(rt, conn)?;
     read(rt, conn)
@@ -46,7 +46,7 @@ fn rows_are_written_and_read(rt: HostRuntime) -> Result<(), Fail> {
     write_and_read(&rt, &mut conn)
 }
 
-/// The id, the pushes, the moves and the verdict in a row.
+/// Returns the id, the pushes, the moves and the verdict in a row.
 fn numbers(row: &Row) -> Result<(u32, Option<u32>, Option<u32>, u32), Error> {
     Ok((row.get(0)?, row.get(4)?, row.get(5)?, row.get(6)?))
 }

@@ -14,8 +14,8 @@ use std::test::Fail;
 /// The files of a database, each of which stops after some calls.
 type Stopping = Files<Fuse<Memory>>;
 
-/// A command on the book that others made, what is looked at then, and what may be found: the last
-/// of these, where the command has answered.
+/// A command on the book that others made, the command that shows the book then, and what it may
+/// show: the last of these, if the first command has answered.
 struct Stop {
     before: &'static [Command<'static>],
     command: Command<'static>,
@@ -70,7 +70,7 @@ const STOPS: [Stop; 4] = [
     },
 ];
 
-/// A file that holds these bytes, and stops after so many calls.
+/// Returns a file with these bytes that stops after so many calls.
 fn stopping(alloc: Global, bytes: &[u8], calls: u64) -> Result<Fuse<Memory>, Fail> {
     let mut file = Memory::new(alloc);
     file.write_at(0, bytes)?;
@@ -78,7 +78,7 @@ fn stopping(alloc: Global, bytes: &[u8], calls: u64) -> Result<Fuse<Memory>, Fai
     Ok(Fuse::new(file, calls))
 }
 
-/// Files with the bytes of others, which stop after so many calls to each.
+/// Returns files with the bytes of others that stop after so many calls to each.
 fn copy_of(alloc: Global, files: &Stopping, log: u64, db: u64) -> Result<Stopping, Fail> {
     Ok(Files {
         log: stopping(alloc, files.log.inner().bytes(), log)?,
@@ -86,7 +86,7 @@ fn copy_of(alloc: Global, files: &Stopping, log: u64, db: u64) -> Result<Stoppin
     })
 }
 
-/// What a command writes of a book, if it answers.
+/// Returns what a command writes, if it answers.
 fn written<S: Alter>(alloc: Global, book: &mut Book<S>, command: Command<'_>) -> Option<Vec<u8>> {
     let mut out = Vec::new(alloc);
     match answer(alloc, book, command, &mut out) {
@@ -95,8 +95,8 @@ fn written<S: Alter>(alloc: Global, book: &mut Book<S>, command: Command<'_>) ->
     }
 }
 
-/// Works on the book in a database: what is left of the database, and what was written, if it
-/// answered.
+/// Runs a command on the book in a database. Returns what is left of the database, and what was
+/// written if the command answered.
 fn worked_in<S: Alter + Drop>(
     alloc: Global,
     connection: Connection<S>,
@@ -114,8 +114,8 @@ fn worked_in<S: Alter + Drop>(
     }
 }
 
-/// The same of the database in some files, which is opened first. It is over files of any kind, so
-/// that the contracts of the calls are read once, and not for the files that stop.
+/// Does the same for the database in some files, which is opened first. It takes files of any kind,
+/// so that the contracts of the calls are read once, and not for the files that stop.
 fn worked_on<D: Disk + Drop>(
     alloc: Global,
     files: Files<D>,
@@ -133,7 +133,7 @@ fn worked_on<D: Disk + Drop>(
     }
 }
 
-/// The same of files that stop.
+/// Does the same for files that stop.
 fn worked(
     alloc: Global,
     files: Stopping,
@@ -142,14 +142,14 @@ fn worked(
     worked_on(alloc, files, command)
 }
 
-/// What is left of the files where a command answers.
+/// Returns what is left of the files after a command that answers.
 fn answered(alloc: Global, files: Stopping, command: Command<'_>) -> Result<Stopping, Fail> {
     let (left, told) = worked(alloc, files, command)?;
     told.ok_or("a command was refused")?;
     Ok(left)
 }
 
-/// The files of the book that commands made.
+/// Returns the files of the book that commands made.
 fn made(alloc: Global, commands: &[Command<'_>]) -> Result<Stopping, Fail> {
     let mut files = Files {
         log: Fuse::new(Memory::new(alloc), u64::MAX),
@@ -161,13 +161,13 @@ fn made(alloc: Global, commands: &[Command<'_>]) -> Result<Stopping, Fail> {
     Ok(files)
 }
 
-/// What a command writes of the book in files, which is opened again.
+/// Returns what a command writes for the book in files, which is opened again.
 fn found(alloc: Global, files: Stopping, command: Command<'_>) -> Result<String, Fail> {
     let (_, told) = worked(alloc, files, command)?;
     Ok(String::from_utf8(told.ok_or("the book is not opened again")?)?)
 }
 
-/// Asserts that what is found in files may be found there.
+/// Asserts that the book in files shows what it may show.
 fn look(
     rt: &impl Abort,
     alloc: Global,
@@ -186,8 +186,7 @@ fn look(
     Ok(())
 }
 
-/// Looks at what a command leaves: all that it wrote, and all that is left if the machine stops with
-/// it.
+/// Looks at what a command leaves: all that it wrote, and what is left if the machine stops too.
 fn look_twice(
     rt: &impl Abort,
     alloc: Global,
@@ -203,7 +202,7 @@ fn look_twice(
 }
 
 /// Stops a command after so many calls to the log and to the database, and looks at what it leaves.
-/// Whether it answered.
+/// Returns whether the command answered.
 fn is_answered(
     rt: &impl Abort,
     alloc: Global,

@@ -1,4 +1,4 @@
-//! Tables that are opened as a book, or that are not.
+//! Tables that are opened as a book, or that are refused.
 
 use sok_book::fault::BookFault;
 use sok_store::book::{Book, OpenRefused};
@@ -17,7 +17,7 @@ INSERT INTO level VALUES (2, '###\n#@#\n#$#\n#.#\n###\n', x'41', 'D', 1, 1, 1);
 
 type Opened = Result<Book<MemStore>, OpenRefused<MemStore>>;
 
-/// What comes of opening a connection as a book.
+/// Opens a connection as a book.
 fn opened(alloc: Global, connection: Connection<MemStore>) -> Result<Opened, Fail> {
     if !connection.is_autocommit() {
         return Err("a transaction is open".into());
@@ -25,14 +25,14 @@ fn opened(alloc: Global, connection: Connection<MemStore>) -> Result<Opened, Fai
     Ok(Book::open(alloc, connection))
 }
 
-/// What comes of opening the table that a text makes.
+/// Opens the table that a text makes as a book.
 fn made(alloc: Global, sql: &str) -> Result<Opened, Fail> {
     let mut connection = Connection::open_in_memory(alloc)?;
     connection.execute_batch(sql)?;
     opened(alloc, connection)
 }
 
-/// Why the two levels are no book, once the second is changed.
+/// Returns why the two levels are no book after the second is changed.
 fn fault_with(alloc: Global, change: &str) -> Result<Option<BookFault>, Fail> {
     let sql = format!(in alloc; "{TWO_LEVELS} UPDATE level SET {change} WHERE id = 2")?;
     match made(alloc, sql.as_str())? {
@@ -48,7 +48,7 @@ fn the_first_bad_row_is_named(rt: HostRuntime) -> Result<(), Fail> {
         ("id = 1", 1),
         ("id = 0", 0),
         ("id = -1", -1),
-        // an id that is no whole number is told as the row's place
+        // an id that is no whole number is reported as the row's place
         ("id = 2.0", 2),
         ("id = '2'", 2),
         ("id = NULL", 1),
@@ -103,7 +103,7 @@ fn tables_that_keep_the_rules_are_opened(rt: HostRuntime) -> Result<(), Fail> {
     Ok(())
 }
 
-/// Asserts what a table of one name has.
+/// Asserts that the table still has its one name.
 fn assert_kept(rt: &impl Abort, connection: &mut Connection<MemStore>) -> Result<(), Fail> {
     let rows = connection.query_all("SELECT name FROM level", &[])?;
     assert_eq!(rt; rows.len(), 1);

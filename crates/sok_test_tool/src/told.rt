@@ -1,4 +1,4 @@
-//! What is told beside an answer: what failed, and lines that are nearly of a board.
+//! What is reported beside an answer: what failed, and lines that are almost lines of a board.
 
 use crate::rows::{prepare, put, run_watched, words};
 use sok_files::notes::Notes;
@@ -67,10 +67,10 @@ const TOLD: [Row; 9] = [
     ),
 ];
 
-/// A byte order mark, a tab, a carriage return too many, and titles.
+/// A byte order mark, a tab, an extra carriage return, and titles.
 const NEAR: &str = "\u{feff}#####\n#@$.#\n#####\n; #1\n#@\t$.#\n#####\r\r\nTitle: ##\n";
 
-/// Runs the program over watched files, tells what was noted, and gives its status.
+/// Runs the program over watched files, reports what was noted, and returns the status.
 fn run_told<W: Write + Drop>(rt: &HostRuntime, words: &[String], out: W, err: &mut Vec<u8>) -> u8 {
     let notes = Notes::new();
     let mut out = WatchedOutput::new(out, "standard output", &notes);
@@ -80,7 +80,7 @@ fn run_told<W: Write + Drop>(rt: &HostRuntime, words: &[String], out: W, err: &m
     status
 }
 
-/// Whether this is told of a row, over an output of 64 bytes.
+/// Returns whether a row has these results, with an output of 64 bytes.
 fn is_told(rt: &HostRuntime, row: Row) -> Result<bool, AllocError> {
     let (line, out, told, status) = row;
     let words = words(rt.alloc(), line)?;
@@ -90,7 +90,7 @@ fn is_told(rt: &HostRuntime, row: Row) -> Result<bool, AllocError> {
     Ok(is_ended && room.starts_with(out.as_bytes()) && err.as_slice() == told.as_bytes())
 }
 
-/// The first row of which something else is told.
+/// Returns the first row with other results.
 fn first_other(rt: &HostRuntime, rows: &[Row]) -> Result<Option<&'static str>, AllocError> {
     for row in rows {
         if !is_told(rt, *row)? {
@@ -100,7 +100,7 @@ fn first_other(rt: &HostRuntime, rows: &[Row]) -> Result<Option<&'static str>, A
     Ok(None)
 }
 
-/// What is told where the output is full.
+/// Returns what is reported if the output is full.
 fn told_when_full(rt: &HostRuntime) -> Result<Vec<u8>, AllocError> {
     let words = words(rt.alloc(), "sok list told/levels")?;
     let mut err = Vec::new(rt.alloc());

@@ -1,4 +1,4 @@
--- The canonical text of a level: each cell its XSB character, floor as a space, and LF at the end of each row.
+-- The canonical text of a level: the XSB character of each cell, with a space for floor, and LF at the end of each row.
 use Rattle.std.specs.Prelude.{ℕ, ◌≡◌, List, [], ◌∷◌, ◌++◌, None, Ok, codes}
 use Rattle.sok_rules.specs.declared.cell.Cell.{Cell}
 use Rattle.sok_rules.specs.declared.cell.Cell.TheVariants.{Wall, Floor, Goal, BoxOff, BoxOn, ManOff, ManOn}
@@ -24,7 +24,7 @@ abbrev pub level_text : Rows → List ℕ
 level_text [] = []
 level_text (row ∷ rows) = row_text row ++ (codes "\n" ++ level_text rows)
 
--- by the definition of collections a text is one level, with these rows and without a title
+-- by the definition of collections, a text is one level, with these rows and without a title
 pub record IsOneLevel (rows : Rows) (text : List ℕ) : Type 0 where
   pub block : Block
   pub one : blocks_of text ≡ block ∷ []

@@ -1,4 +1,4 @@
--- A collection of levels: runs of board lines are levels, and so are packed lines, each by itself; all other lines are notes.
+-- Collections of levels. A run of board lines is a level, and so is each packed line. All other lines are notes.
 use Rattle.std.specs.Prelude.{ℕ, ◌≡◌, List, [], ◌∷◌, ◌++◌, Option, None, Result, Err, zero, suc, slice_get, if◌then◌else◌, map, Bool, false}
 use Rattle.std.specs.Option.{option_map_or}
 use Rattle.std.specs.List.{filter_map}
@@ -18,7 +18,7 @@ pub record Part : Type 0 where
   pub board : List (List ℕ)
   pub after : List (List ℕ)
 
--- the notes before the first board, and then each board with the notes after it
+-- the notes before the first board, and each board with the notes after it
 pub record Parts : Type 0 where
   pub notes : List (List ℕ)
   pub boards : List Part
@@ -27,13 +27,13 @@ abbrev pub starts_with_row : List (List ℕ) → Bool
 starts_with_row [] = false
 starts_with_row (line ∷ ls) = is_board_line line
 
--- a line of a board before the parts of a text: it belongs to their first board, if that is of such lines and no note stands between, and else is a board of its own
+-- A board line put before the parts of a text. It joins their first board if that has board lines and no note stands between. Otherwise it is a new board.
 abbrev pub onto_board : List ℕ → List (List ℕ) → List Part → List Part
 onto_board line [] (first ∷ boards) =
     if starts_with_row first.board then record first { board = line ∷ first.board } ∷ boards else record { board = line ∷ []; after = [] } ∷ (first ∷ boards)
 onto_board line notes boards = record { board = line ∷ []; after = notes } ∷ boards
 
--- the parts of a text behind a line of a kind
+-- the parts of a text that begins with a line of a kind, given the parts after that line
 abbrev pub parts_behind : Kind → List ℕ → Parts → Parts
 parts_behind Row line parts = record { notes = []; boards = onto_board line parts.notes parts.boards }
 parts_behind Packed line parts = record { notes = []; boards = record { board = line ∷ []; after = parts.notes } ∷ parts.boards }
@@ -44,13 +44,13 @@ abbrev pub parts_of : List (List ℕ) → Parts
 parts_of [] = record { notes = []; boards = [] }
 parts_of (line ∷ rest) = parts_behind (kind_of line) line (parts_of rest)
 
--- a level's board lines, with the notes before them and after them, up to the boards beside it
+-- the board lines of a level, with the notes before and after them, up to the next board on each side
 pub record Block : Type 0 where
   pub before : List (List ℕ)
   pub board : List (List ℕ)
   pub after : List (List ℕ)
 
--- a block, by its texts
+-- the block with these texts
 abbrev pub block_of : List ℕ → List ℕ → List ℕ → Block
 block_of before board after = record { before = lines before; board = lines board; after = lines after }
 
@@ -63,7 +63,7 @@ blocks_from before (part ∷ parts) = record { before = before; board = part.boa
 unfoldable pub blocks_of : List ℕ → List Block
 blocks_of text = let parts = parts_of (lines text) in blocks_from parts.notes parts.boards
 
--- the rows of a board whose first line is of a kind: those of a packed line, or one for each line
+-- the rows of a board whose first line is of a kind: those of the packed line, or one row for each line
 abbrev pub rows_by : Kind → List ℕ → List (List ℕ) → Rows
 rows_by Packed line board = packed_rows line
 rows_by Row line board = map (filter_map cell_of) (line ∷ board)
@@ -85,12 +85,12 @@ block_at blocks (suc n) = slice_get blocks n
 unfoldable pub level_at : List Block → ℕ → Result Rows LevelFault
 level_at blocks n = option_map_or (λ block. level_of (rows_of block)) (block_at blocks n) (Err NoSuchLevel)
 
--- the lines of boards and of the notes after them, one after another
+-- the lines of all boards and of the notes after them, in order
 abbrev pub joined : List Part → List (List ℕ)
 joined [] = []
 joined (part ∷ parts) = part.board ++ (part.after ++ joined parts)
 
--- a board, which is as long as it can be, and notes after it
+-- a board that is as long as possible, and only notes after it
 pub record IsRun (part : Part) (more : List Part) : Type 0 where
   pub board : IsBoard part.board (part.after ++ joined more)
   pub notes : AreOf Note part.after
@@ -99,7 +99,7 @@ abbrev pub AreRuns : List Part → Type 0
 AreRuns [] = Unit {0}
 AreRuns (part ∷ parts) = IsRun part parts × AreRuns parts
 
--- lines are cut into notes and boards
+-- the parts are a cut of lines into notes and boards
 pub record IsCut (ls : List (List ℕ)) (parts : Parts) : Type 0 where
   pub whole : ls ≡ parts.notes ++ joined parts.boards
   pub notes : AreOf Note parts.notes

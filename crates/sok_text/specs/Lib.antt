@@ -1,6 +1,6 @@
--- Words of public contracts: `Canonical`, `Characters`, `Collections`, `Counts`, `Kinds`, `Lurd`, `Marked`, `Packed`, `Plain`, `Titles`, `Xsb`, and of `Lines` `first_line`, `after_line`,
--- `IsUnended` and `IsCutAtEnd`.
--- The proof's own: `Like`, and what else stands in `Lines`, as what is passed of a text.
+-- Definitions that public contracts use: `Canonical`, `Characters`, `Collections`, `Counts`, `Kinds`, `Lurd`, `Marked`, `Packed`, `Plain`, `Titles`, `Xsb`,
+-- and from `Lines` `first_line`, `after_line`, `IsUnended` and `IsCutAtEnd`.
+-- Definitions for the proofs alone: `Like`, and the rest of `Lines`, such as which part of a text is skipped.
 pub mod Canonical
 pub mod Characters
 pub mod Collections

@@ -1,4 +1,4 @@
--- Rows that are as good as others for the level that they are of.
+-- Rows that can replace others, because they make the same level or have the same fault.
 use Rattle.std.specs.Prelude.{◌≡◌, ◌<◌, List, [], ◌∷◌, ◌⊎◌, length}
 use Rattle.sok_rules.specs.declared.cell.Cell.{Cell}
 use Rattle.sok_rules.specs.Limits.{size_limit}

@@ -13,11 +13,11 @@ is_newline c = c == code (codes "\n")
 unfoldable pub first_line : List ℕ → List ℕ
 first_line text = if nat_lt (position_or_len is_newline text) (length text) then strip_carriage_return (before_first is_newline text) else text
 
--- the text behind its first line
+-- the text after its first line
 unfoldable pub after_line : List ℕ → List ℕ
 after_line text = after_first is_newline text
 
--- a text in which no line ends
+-- a text without LF, so that no line ends in it
 abbrev pub IsUnended : List ℕ → Type 0
 IsUnended text = All (λ byte. is_newline byte ≡ false) text
 
@@ -26,18 +26,18 @@ pub record IsCutAtEnd (text front rest : List ℕ) : Type 0 where
   pub whole : text ≡ front ++ 10 ∷ rest
   pub unended : IsUnended front
 
--- a text can be cut into lines up to a place and from there on
+-- a place at which a text can be cut: its lines are those up to there, followed by those from there on
 abbrev pub IsLineEnd : List ℕ → List ℕ → Type 0
 IsLineEnd front rest = (rest ≡ []) ⊎ ((more : List ℕ) → lines (front ++ more) ≡ lines front ++ lines more)
 
--- between two places in a text stand whole lines of one kind
+-- between two places in a text there are only whole lines of one kind
 pub record Passes (kind : Kind) (from to : List ℕ) : Type 0 where
   pub front : List ℕ
   pub whole : from ≡ front ++ to
   pub cut : IsLineEnd front to
   pub same : AreOf kind (lines front)
 
--- a board stands between two places in a text
+-- the lines between two places in a text are a board
 pub record PassesBoard (from to : List ℕ) : Type 0 where
   pub front : List ℕ
   pub whole : from ≡ front ++ to

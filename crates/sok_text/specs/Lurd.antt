@@ -15,7 +15,7 @@ use Rattle.sok_text.specs.declared.lurd.LurdFault.TheVariants.{BadLetter, TooLon
 abbrev pub is_blank : ℕ → Bool
 is_blank c = c == code (codes " ") || c == code (codes "\t") || c == code (codes "\n") || c == code (codes "\r")
 
--- the letters L U R D, in either case
+-- the direction of a letter, which is L, U, R or D in either case
 abbrev pub direction : ℕ → Option Dir
 direction c =
     if c == code (codes "L") || c == code (codes "l") then Some Left
@@ -24,12 +24,12 @@ direction c =
     else if c == code (codes "D") || c == code (codes "d") then Some Down
     else None
 
--- a blank; or a letter with the digits before it, of which there may be none, and its direction
+-- a blank; or the digits before a letter, of which there may be none, the letter, and its direction
 pub data Token : Type 0 where
   blank : ℕ → Token
   letter : List ℕ → ℕ → Dir → Token
 
--- the number of a letter is not 0
+-- the parts of a token are right: a blank; or digits whose number is not 0, and a letter with this direction
 abbrev pub IsToken : Token → Type 0
 IsToken (blank c) = is_blank c ≡ true
 IsToken (letter digits c d) = AllPass is_ascii_digit digits × (direction c ≡ Some d) × (0 < times digits)
@@ -42,7 +42,7 @@ abbrev pub token_letters : Token → List Dir
 token_letters (blank c) = []
 token_letters (letter digits c d) = replicate (times digits) d
 
--- the bytes are tokens, one after another, and these are their letters
+-- the bytes are a sequence of tokens, and these are their letters, no more than a text may have
 pub record Spells (bytes : List ℕ) (w : List Dir) : Type 0 where
   pub tokens : List Token
   pub are : All IsToken tokens
@@ -50,17 +50,17 @@ pub record Spells (bytes : List ℕ) (w : List Dir) : Type 0 where
   pub letters : w ≡ flat_map token_letters tokens
   pub few : length w ≤ letter_limit
 
--- the direction of the letter that a text begins with
+-- the direction of the letter with which a text begins, if it begins with one
 abbrev pub first_direction : List ℕ → Option Dir
 first_direction [] = None
 first_direction (c ∷ text) = direction c
 
--- what is wrong at a place in a text, where this is left of it, after these letters
+-- the fault of a text at the place `at`, after the letters `w`; `left` is the text from that place on
 pub data IsWrong (at : ℕ) (w : List Dir) (left : List ℕ) (fault : LurdFault) : Type 0 where
-  -- a byte that is no blank, no digit and no letter
+  -- a byte that is not a blank, a digit or a letter
   unknown : (c : ℕ) (rest : List ℕ) → left ≡ c ∷ rest → is_blank c ≡ false → is_ascii_digit c ≡ false → direction c ≡ None → fault ≡ BadLetter at
       → IsWrong at w left fault
-  -- digits, as many as there are, and no letter behind them
+  -- digits, as many as there are in a row, and no letter after them
   alone : (c : ℕ) (digits rest : List ℕ) → left ≡ (c ∷ digits) ++ rest → AllPass is_ascii_digit (c ∷ digits) → starts_with_digit rest ≡ false
       → first_direction rest ≡ None → fault ≡ BadLetter (at + length (c ∷ digits)) → IsWrong at w left fault
   -- the number 0 before a letter
@@ -70,7 +70,7 @@ pub data IsWrong (at : ℕ) (w : List Dir) (left : List ℕ) (fault : LurdFault)
   many : (digits rest : List ℕ) (c : ℕ) (d : Dir) → left ≡ digits ++ c ∷ rest → AllPass is_ascii_digit digits → direction c ≡ Some d
       → letter_limit < length w + times digits → fault ≡ TooLong → IsWrong at w left fault
 
--- a front of the bytes spells letters, and behind it the text goes wrong
+-- the bytes begin with a part that spells letters, and directly after that part the text has the fault
 pub record GoesWrong (bytes : List ℕ) (fault : LurdFault) : Type 0 where
   pub front : List ℕ
   pub left : List ℕ
@@ -79,7 +79,7 @@ pub record GoesWrong (bytes : List ℕ) (fault : LurdFault) : Type 0 where
   pub spelled : Spells front w
   pub wrong : IsWrong (length front) w left fault
 
--- the numbers by which faults are printed, and their names with their arguments, each after one space
+-- how faults are printed: the number of each, and its name, followed by one space and its argument if it has one
 abbrev pub lurd_fault_number : LurdFault → ℕ
 lurd_fault_number (BadLetter at) = 11
 lurd_fault_number TooLong = 14

@@ -8,7 +8,7 @@ use Rattle.sok_rules.specs.Squares.{Rows}
 use Rattle.sok_rules.specs.Play.{Position, run, start, step}
 use Rattle.sok_text.specs.Lurd.{Spells}
 
--- the letter of a direction: upper case where it pushes
+-- the letter of a direction, in upper case if it pushes
 abbrev pub marked_letter : Dir → Bool → List ℕ
 marked_letter Left true = codes "L"
 marked_letter Left false = codes "l"
@@ -19,7 +19,7 @@ marked_letter Right false = codes "r"
 marked_letter Down true = codes "D"
 marked_letter Down false = codes "d"
 
--- the text of a legal list, a letter for each direction
+-- the marked text of a legal list: one letter for each direction
 abbrev pub marked_text : Rows → Position → List Dir → List ℕ
 marked_text rows x [] = []
 marked_text rows x (d ∷ w) = option_map_or (λ after. marked_letter d after.pushed ++ marked_text rows after.position w) (step rows d x) []
@@ -29,6 +29,6 @@ pub record IsMarkedText (rows : Rows) (w : List Dir) (text : List ℕ) : Type 0 
   pub legal : IsSome (run rows (start rows) w)
   pub is : text ≡ marked_text rows (start rows) w
 
--- a marked text spells its letters, where there are no more than a text may have
+-- a marked text spells its letters, if there are no more than a text may have
 abbrev pub MarkedTextsSpell : Type 0
 MarkedTextsSpell = (rows : Rows) (w : List Dir) (text : List ℕ) → IsMarkedText rows w text → length w ≤ letter_limit → Spells text w

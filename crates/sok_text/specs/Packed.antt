@@ -16,20 +16,20 @@ is_bar c = c == code (codes "|")
 abbrev pub is_count : List ℕ → Bool
 is_count digits = nat_le (length digits) 3 && nat_le 1 (times digits) && nat_le (times digits) 128
 
--- behind these digits a bar stands, and there are none, or a character of a cell, and they are its count or none
+-- a bar that has no digits before it, or the character of a cell that has a count or no digits before it
 abbrev pub is_mark : List ℕ → ℕ → Bool
 is_mark digits c = if is_bar c then length digits == 0 else is_some (cell_of c) && is_count digits
 
--- what is left of a line behind these digits has only such marks
+-- the rest of a line, after these digits, has only such marks
 abbrev pub is_encoded : List ℕ → List ℕ → Bool
 is_encoded digits [] = length digits == 0
 is_encoded digits (c ∷ line) = if is_ascii_digit c then is_encoded (digits ++ c ∷ []) line else is_mark digits c && is_encoded [] line
 
--- with a wall and a bar
+-- a line that has only such marks, with a wall and a bar among them
 abbrev pub is_packed_line : List ℕ → Bool
 is_packed_line line = is_encoded [] line && list_any (λ c. c == code (codes "#")) line && list_any is_bar line
 
--- a character before the parts of a line
+-- the parts of a line with a character put before the first part
 abbrev pub onto_first : ℕ → List (List ℕ) → List (List ℕ)
 onto_first c [] = (c ∷ []) ∷ []
 onto_first c (part ∷ parts) = (c ∷ part) ∷ parts
@@ -39,14 +39,14 @@ abbrev pub parts_between : List ℕ → List (List ℕ)
 parts_between [] = []
 parts_between (c ∷ line) = if is_bar c then [] ∷ parts_between line else onto_first c (parts_between line)
 
--- the cells of what is left of a part behind these digits
+-- the cells of the rest of a part, after these digits
 abbrev pub cells_behind : List ℕ → List ℕ → List Cell
 cells_behind digits [] = []
 cells_behind digits (c ∷ part) =
     if is_ascii_digit c then cells_behind (digits ++ c ∷ []) part
     else option_map_or (λ cell. replicate (times digits) cell ++ cells_behind [] part) (cell_of c) []
 
--- the cell that a text begins with
+-- the cell with which a text begins, if it begins with one
 abbrev pub first_cell : List ℕ → Option Cell
 first_cell [] = None
 first_cell (c ∷ text) = cell_of c

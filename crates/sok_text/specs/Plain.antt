@@ -29,6 +29,6 @@ pub record ReadsPlain (text : List ℕ) : Type 0 where
   pub blocks : blocks_of text ≡ plain_blocks text
   pub rows : All (λ block. rows_of block ≡ plain_rows block) (blocks_of text)
 
--- a text in which no bar stands is read as before
+-- a text without a bar is read as before
 abbrev pub TextsReadPlain : Type 0
 TextsReadPlain = (text : List ℕ) → All (λ c. is_bar c ≡ false) text → ReadsPlain text

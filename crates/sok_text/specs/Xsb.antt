@@ -17,6 +17,6 @@ cell_of c =
     else if c == code (codes " ") || c == code (codes "-") || c == code (codes "_") then Some Floor
     else None
 
--- only such characters, and a wall among them
+-- a line that has only such characters, and a wall among them
 abbrev pub is_board_line : List ℕ → Bool
 is_board_line line = list_all (λ c. is_some (cell_of c)) line && list_any (λ c. c == code (codes "#")) line

@@ -1,4 +1,4 @@
-//! Collections: the levels of a text that has notes around them.
+//! Collections: the levels of a text, with notes around them.
 
 ghost use Rattle.std.specs.Prelude.{◌≡◌, ◌⊎◌, ◌↔◌, ℕ, List, None, Err, IfOk};
 ghost use Rattle.std.specs.Prelude.{length, map, option_map};
@@ -23,8 +23,8 @@ use sok_rules::level::{LIMIT, Level};
 use std::alloc::{AllocError, Global};
 use std::marker::Model;
 
-/// The levels of a text, in order. It keeps slices of the text, and makes a level when it is asked
-/// for. It is seen as the list of its blocks: a board's lines, with the notes before and after.
+/// The levels of a text, in order. It holds slices of the text and makes a level only on request.
+/// Contracts see it as a list of blocks: the lines of a board, with the notes before and after.
 #[derive(Drop)]
 pub struct Collection<'a> {
     notes: &'a [u8],
@@ -59,10 +59,9 @@ impl<'a> Model for Collection<'a> {
 }
 
 impl<'a> Collection<'a> {
-    /// Reads a text in one pass. A line that has only characters of XSB, and a wall among them, is
-    /// a board line, and a level is a run of such lines, as long as it can be, or a packed line.
-    /// Every other line is a note, and may hold any bytes. A line ends with LF, CR LF or the end of
-    /// the text.
+    /// Reads a text in one pass. A board line has only XSB characters, and a wall among them. A
+    /// level is a run of board lines, as long as possible, or one packed line. Every other line is
+    /// a note and may hold any bytes. A line ends with LF, CR LF or the end of the text.
     #[tactic(auto, unfolding(crate::specs::Collections::blocks_of))]
     pub fn read(alloc: Global, text: &'a [u8]) -> Result<Collection<'a>, Memory>
         ensures { IfOk result (λ collection. collection ≡ blocks_of text.now) }
@@ -82,15 +81,17 @@ impl<'a> Collection<'a> {
         Ok(Collection { notes, parts })
     }
 
-    /// How many levels there are.
+    /// Returns the number of levels.
     pub fn len(&self) -> usize
         ensures { result ≡ length self.now }
     {
         self.parts.len()
     }
 
-    /// Makes the n-th level, counted from 1. `NoSuchLevel` comes first, and then the faults of
-    /// `Level::new`. A faulty level leaves the others readable.
+    /// Makes the `n`-th level, counted from 1. A faulty level does not affect the others.
+    ///
+    /// Errors: `NoSuchLevel` if there is no such level; otherwise the faults of `Level::new`, or
+    /// `Memory`.
     #[tactic(auto, unfolding(crate::specs::Collections::level_at))]
     pub fn level(&self, alloc: Global, n: usize) -> Result<Level, LevelFault>
         ensures level { (result ≡ Err fault.Memory) ⊎ (result ≡ level_at self.now n) }
@@ -102,9 +103,10 @@ impl<'a> Collection<'a> {
         }
     }
 
-    /// The title of the n-th level, counted from 1, as a slice of the text: what stands behind the
-    /// first `Title:` after its board, or else behind the semicolon of the last note before its
-    /// board that is not blank. None where there is no title, and where there is no such level.
+    /// Returns the title of the `n`-th level, counted from 1, as a slice of the text. It is the
+    /// text of the first note after the board that begins with `Title:` and has text after it.
+    /// Otherwise it is the text of the last note before the board that is not blank, if that note
+    /// begins with a semicolon. `None` if there is no title or no such level.
     pub fn title(&self, n: usize) -> Option<&'a [u8]>
         ensures { option_map (λ title. title.now) result
             ≡ title_at self.now n }
@@ -113,7 +115,7 @@ impl<'a> Collection<'a> {
         title_between(block.before, block.after)
     }
 
-    /// The text of the n-th board.
+    /// Returns the text of the `n`-th board.
     fn board(&self, n: usize) -> Option<&'a [u8]>
         ensures { option_map (λ board. lines board.now) result
             ≡ option_map (λ block. block.board) (block_at self.now n) }
@@ -122,7 +124,7 @@ impl<'a> Collection<'a> {
         Some(block.board)
     }
 
-    /// The texts of the n-th block.
+    /// Returns the texts of the `n`-th block.
     fn block(&self, n: usize) -> Option<Texts<'a>>
         ensures { option_map (λ texts. block_of texts.before.now texts.board.now texts.after.now)
             result ≡ block_at self.now n }
@@ -141,7 +143,7 @@ impl<'a> Collection<'a> {
     }
 }
 
-/// The rows of a board, or as many of their cells as tell its level.
+/// Returns the rows of a board. Cells that change neither its level nor its fault may be missing.
 fn rows_of(alloc: Global, board: &[u8]) -> Result<Vec<Vec<Cell>>, AllocError>
     ensures { IfOk result
         (λ rows. level_of (cells_of rows.items) ≡ level_of (board_rows (lines board.now))) }
@@ -153,7 +155,7 @@ fn rows_of(alloc: Global, board: &[u8]) -> Result<Vec<Vec<Cell>>, AllocError>
     }
 }
 
-/// The cells of each line of a board, up to the row that is one too many.
+/// Returns the cells of each line of a board, up to the 129th row, which is one too many.
 fn rows_of_lines(alloc: Global, board: &[u8]) -> Result<Vec<Vec<Cell>>, AllocError>
     ensures { IfOk result
         (λ rows. level_of (cells_of rows.items)
@@ -169,7 +171,7 @@ fn rows_of_lines(alloc: Global, board: &[u8]) -> Result<Vec<Vec<Cell>>, AllocErr
     Ok(rows)
 }
 
-/// The cells of a line.
+/// Returns the cells of a line.
 fn row_of(alloc: Global, line: &[u8]) -> Result<Vec<Cell>, AllocError>
     ensures { IfOk result (λ row. row.items ≡ filter_map cell_of line.now) }
 {
@@ -183,15 +185,15 @@ fn row_of(alloc: Global, line: &[u8]) -> Result<Vec<Cell>, AllocError>
     Ok(row)
 }
 
-/// Cutting lines into notes and boards loses none of them, takes a packed line or board lines alone
-/// into each board, and makes each board of board lines as long as it can be. No other cut does so.
+/// Lines are cut into notes and boards so that no line is lost, each board is one packed line or
+/// only board lines, and each board of board lines is as long as possible. No other cut does so.
 pub fn boards_are_maximal_runs()
     ensures cut { (ls : List (List ℕ)) → IsCut ls (parts_of ls) }
     ensures only { (ls : List (List ℕ)) (parts : Parts) → IsCut ls parts → parts ≡ parts_of ls }
 {}
 
-/// A text in which no bar stands is read as it was before there were packed lines: the same blocks,
-/// with the same rows.
+/// A text without a bar is read as it was before there were packed lines: the same blocks, with the
+/// same rows.
 pub fn texts_without_bars_read_as_before()
     ensures { TextsReadPlain }
 {}

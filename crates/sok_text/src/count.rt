@@ -1,4 +1,4 @@
-//! Counts: digits before what they repeat.
+//! Counts: digits before the character that they repeat.
 
 ghost use Rattle.std.specs.Prelude.{◌≡◌, ◌+◌, ◌++◌, false, min};
 ghost use Rattle.std.specs.Char.{is_ascii_digit};
@@ -8,7 +8,7 @@ ghost use Rattle.sok_text.specs.Counts.{times, starts_with_digit};
 
 use crate::lurd::LIMIT;
 
-/// The digits that a text begins with, and what stands behind them.
+/// Splits a text after the digits that it begins with.
 pub(crate) fn cut_digits(text: &[u8]) -> (&[u8], &[u8])
     ensures whole { text.now ≡ result.0.now ++ result.1.now }
     ensures digits { AllPass is_ascii_digit result.0.now }
@@ -21,7 +21,8 @@ pub(crate) fn cut_digits(text: &[u8]) -> (&[u8], &[u8])
     text.split_at(end)
 }
 
-/// How often what stands behind these digits is meant, told up to 1,000,001.
+/// Returns how often these digits repeat the character after them, at most 1,000,001. Without
+/// digits, returns 1.
 pub(crate) fn times(digits: &[u8]) -> usize
     requires { AllPass is_ascii_digit digits.now }
     ensures { result ≡ min (times digits.now) (letter_limit + 1) }

@@ -1,4 +1,4 @@
-//! What a line of a collection is.
+//! The kinds of lines in a collection.
 
 ghost use Rattle.std.specs.Prelude.{◌≡◌};
 ghost use Rattle.sok_text.specs.Kinds.{kind_of};
@@ -6,7 +6,7 @@ ghost use Rattle.sok_text.specs.Kinds.{kind_of};
 use crate::packed::is_packed_line;
 use crate::xsb::is_board_line;
 
-/// What a line is.
+/// The kind of a line.
 #[derive(Clone, Copy, PartialEq, Eq)]
 pub enum Kind {
     /// A line of a board.
@@ -17,7 +17,7 @@ pub enum Kind {
     Note,
 }
 
-/// What a line, without its end, is.
+/// Returns the kind of a line, which is given without its end.
 pub fn kind_of(line: &[u8]) -> Kind
     ensures { result ≡ kind_of line.now }
 {

@@ -3,14 +3,14 @@
 //! | Module | What it holds |
 //! |---|---|
 //! | `xsb` | the characters of a level's text, and which lines belong to a board |
-//! | `count` | the digits before what they repeat |
+//! | `count` | counts: digits before the character that they repeat (private) |
 //! | `packed` | the rows of a level on one line |
-//! | `kind` | which lines are of a board, packed, or notes |
-//! | `line` | the lines of a text, and the boards and the notes that they are |
-//! | `collection` | the levels of a text that has notes around them |
-//! | `title` | the titles that notes give to levels; what is trimmed of them |
+//! | `kind` | the kinds of lines: of a board, packed, or notes |
+//! | `line` | the lines of a text, and the boards and notes that they form |
+//! | `collection` | the levels of a text, with notes around them |
+//! | `title` | the titles of levels, from notes, and how they are trimmed |
 //! | `print` | the canonical text of a level |
-//! | `lurd` | the letters of a text, and the marked text of letters |
+//! | `lurd` | letters, read from a text and printed as marked text |
 #![tactic(auto)]
 
 pub mod collection;

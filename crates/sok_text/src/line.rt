@@ -1,4 +1,4 @@
-//! The lines of a text, and the boards and the notes that they are.
+//! The lines of a text, and the boards and notes that they form.
 
 ghost use Rattle.std.specs.Prelude.{◌≡◌, ◌<◌, ◌≤◌, ◌-◌, ◌==◌, MatchOption, position, length, take};
 ghost use Rattle.std.specs.Str.Lines.{lines, strip_carriage_return};
@@ -10,19 +10,19 @@ ghost use Rattle.sok_text.specs.declared.kind.Kind.TheVariants as kind;
 use crate::kind::{Kind, kind_of};
 use memchr::memchr;
 
-/// A place in a text at the start of a line, and what is known of that line.
+/// A place in a text at the start of a line, and the kind of that line.
 #[derive(Clone, Copy)]
 pub(crate) struct Place<'a> {
     /// The text from the line on.
     pub(crate) rest: &'a [u8],
-    /// The text behind the line.
+    /// The text after the line.
     next: &'a [u8],
     kind: Kind,
     ghost behind: { next.now ≡ after_line rest.now },
     ghost is: { kind ≡ kind_of (first_line rest.now) },
 }
 
-/// Looks at the first line of a text.
+/// Returns the place at the start of a text.
 pub(crate) fn place_at(text: &[u8]) -> Place<'_>
     ensures { result.rest.now ≡ text.now }
 {
@@ -34,7 +34,7 @@ pub(crate) fn place_at(text: &[u8]) -> Place<'_>
     }
 }
 
-/// Passes the lines of a kind that a text begins with.
+/// Skips the lines of a kind with which a text begins.
 pub(crate) fn pass<'a>(kind: Kind, from: Place<'a>) -> Place<'a>
     ensures passes { Passes kind from.entry.rest.now result.rest.now }
     ensures ends { StartsOther kind (lines result.rest.now) }
@@ -46,7 +46,7 @@ pub(crate) fn pass<'a>(kind: Kind, from: Place<'a>) -> Place<'a>
     here
 }
 
-/// Passes the board that a text begins with: a packed line, or the lines of a board.
+/// Skips the board with which a text begins: a packed line, or the lines of a board.
 pub(crate) fn pass_board<'a>(from: Place<'a>) -> Place<'a>
     requires full { 0 < length from.rest.now }
     requires begins { kind_of (first_line from.rest.now) ≡ kind.Note → ⊥ }
@@ -58,7 +58,7 @@ pub(crate) fn pass_board<'a>(from: Place<'a>) -> Place<'a>
     }
 }
 
-/// The part of a text before a rest of it.
+/// Returns the part of `text` before `rest`, with which it ends.
 pub(crate) fn before<'a>(text: &'a [u8], rest: &[u8]) -> &'a [u8]
     requires { length rest.now ≤ length text.now }
     ensures { result.now ≡ take (length text.now - length rest.now) text.now }
@@ -66,7 +66,7 @@ pub(crate) fn before<'a>(text: &'a [u8], rest: &[u8]) -> &'a [u8]
     &text[..text.len() - rest.len()]
 }
 
-/// The first line of a text without its end, and the text behind it. LF ends a line, and one CR
+/// Returns the first line of a text without its end, and the text after it. LF ends a line. One CR
 /// before that LF belongs to the end.
 pub fn cut_line(text: &[u8]) -> (&[u8], &[u8])
     ensures line { result.0.now ≡ first_line text.now }
@@ -78,7 +78,7 @@ pub fn cut_line(text: &[u8]) -> (&[u8], &[u8])
     }
 }
 
-/// The bytes before the first LF of a text, and those behind it; None where there is none.
+/// Returns the bytes before the first LF of a text, and those after it. `None` if there is no LF.
 pub fn cut_at_end(text: &[u8]) -> Option<(&[u8], &[u8])>
     ensures { MatchOption result (IsUnended text.now)
         (λ cut. IsCutAtEnd text.now cut.0.now cut.1.now) }
@@ -95,7 +95,7 @@ fn line_end(text: &[u8]) -> Option<usize>
     memchr(b'\n', text)
 }
 
-/// A line without the one carriage return at its end, if it has one.
+/// Returns a line without the one carriage return at its end, if it has one.
 pub fn without_return(line: &[u8]) -> &[u8]
     ensures { result.now ≡ strip_carriage_return line.now }
 {

@@ -20,14 +20,16 @@ use std::alloc::{AllocError, AllocFailed, Global};
 use std::fmt;
 use thiserror::Error;
 
-/// The most letters of a text.
+/// The maximum number of letters in a text that is read.
 pub const LIMIT: usize = 1_000_000;
 
-/// Why a text is no list of letters. It is displayed as its name and its argument.
+/// Why a text is not a list of letters. It is displayed as its name, followed by its argument if it
+/// has one.
 #[derive(Clone, Copy, Debug, PartialEq, Eq, Error)]
 pub enum LurdFault {
-    /// The place, in bytes from 0, of a byte that is no letter, no digit and no blank; of what stands
-    /// behind a number and is no letter, the end of the text included; or of a number that is 0.
+    /// The place, in bytes from 0, of a byte that is not a letter, a digit or a blank; of what
+    /// follows a number and is not a letter, which may be the end of the text; or of a number that
+    /// is 0.
     BadLetter(usize),
     /// There are more than 1,000,000 letters.
     TooLong,
@@ -36,7 +38,7 @@ pub enum LurdFault {
 }
 
 impl LurdFault {
-    /// The number by which the fault is printed.
+    /// Returns the number with which the fault is printed.
     pub fn number(&self) -> u8
         ensures { result ≡ lurd_fault_number self.now }
     {
@@ -76,10 +78,11 @@ impl<T: Drop> From<AllocFailed<T>> for LurdFault {
     }
 }
 
-/// Reads a list of letters: `l`, `u`, `r` and `d` in either case, each with a decimal number directly
-/// before it where it is repeated, and spaces, tabs and ends of lines between them. Of a text that is
-/// none the fault is the one that comes first in it, from the left: `BadLetter`, or `TooLong` at the
-/// letter by which there are too many.
+/// Reads a list of letters: `l`, `u`, `r` and `d`, in either case. A decimal number directly before
+/// a letter repeats it. Spaces, tabs and ends of lines may stand between letters.
+///
+/// Errors: the first one in the text, from the left, which is `BadLetter`, or `TooLong` at the
+/// letter that exceeds the limit; `Memory`.
 pub fn read_lurd(alloc: Global, text: &[u8]) -> Result<Vec<Dir>, LurdFault>
     ensures { MatchResult result (λ letters. Spells text.now letters.items)
         (λ fault. (fault ≡ lurd.Memory) ⊎ GoesWrong text.now fault) }
@@ -108,7 +111,7 @@ pub fn read_lurd(alloc: Global, text: &[u8]) -> Result<Vec<Dir>, LurdFault>
     Ok(letters)
 }
 
-/// Puts a letter behind others, so many times.
+/// Appends a letter `count` times.
 fn put(letters: &mut Vec<Dir>, dir: Dir, count: usize) -> Result<(), AllocError>
     ensures { IfOk result (λ _. letters.new.items ≡ letters.old.items ++ replicate count dir) }
 {
@@ -118,7 +121,7 @@ fn put(letters: &mut Vec<Dir>, dir: Dir, count: usize) -> Result<(), AllocError>
     Ok(())
 }
 
-/// The direction of the letter that a text begins with, if it begins with one.
+/// Returns the direction of the letter with which a text begins, if it begins with one.
 fn first_direction(text: &[u8]) -> Option<Dir>
     ensures { result ≡ first_direction text.now }
 {
@@ -131,7 +134,7 @@ fn is_blank(byte: u8) -> bool
     byte == b' ' || byte == b'\t' || byte == b'\n' || byte == b'\r'
 }
 
-/// The direction that a letter stands for, in either case.
+/// Returns the direction that a letter stands for, in either case.
 fn direction(letter: u8) -> Option<Dir>
     ensures { result ≡ direction letter }
 {
@@ -144,9 +147,10 @@ fn direction(letter: u8) -> Option<Dir>
     }
 }
 
-/// The marked text of a list of letters, of any length, that is played from the start of a level:
-/// a letter for each direction, in upper case exactly where it pushes. Refused where a letter is
-/// not legal, with the place of the first such letter.
+/// Returns the marked text of a list of letters, of any length, that is played from the start of a
+/// level: one letter for each direction, in upper case exactly if it pushes.
+///
+/// Errors: `Blocked` with the place of the first letter that is not legal; `Memory`.
 pub fn print_lurd(alloc: Global, level: &Level, dirs: &[Dir]) -> Result<Vec<u8>, PlayFault>
     ensures { MatchResult result
         (λ text. IsMarkedText level.now dirs.now text.items) (IsReplayFault level.now dirs.now) }
@@ -159,7 +163,7 @@ pub fn print_lurd(alloc: Global, level: &Level, dirs: &[Dir]) -> Result<Vec<u8>,
     Ok(text)
 }
 
-/// The letter of a direction, in upper case where it pushes.
+/// Returns the letter of a direction, in upper case if it pushes.
 fn letter(dir: Dir, pushes: bool) -> u8
     ensures { result ∷ [] ≡ marked_letter dir pushes }
 {
@@ -175,13 +179,13 @@ fn letter(dir: Dir, pushes: bool) -> u8
     }
 }
 
-/// A marked text spells its letters, so that `read_lurd` gives them back, where they are no more
-/// than a text may have.
+/// A marked text spells its letters, if there are no more than a text may have. So `read_lurd`
+/// returns them.
 pub fn marked_texts_spell_their_letters()
     ensures { MarkedTextsSpell }
 {}
 
-/// A text spells one list of letters at most, or goes wrong in one way, and never both.
+/// A text spells at most one list of letters and has at most one fault, and it never has both.
 pub fn texts_have_one_reading()
     ensures spelled { (text : List ℕ) (v w : List Dir) → Spells text v → Spells text w → v ≡ w }
     ensures wrong { (text : List ℕ) (f g : LurdFault)

@@ -1,4 +1,4 @@
-//! Packed lines: the rows of a level on one line, run-length encoded (Sokoban Wiki, "Level format").
+//! Packed lines: a level's rows on one line, run-length encoded (Sokoban Wiki, "Level format").
 
 ghost use Rattle.std.specs.Prelude.{◌≡◌, ◌<◌, ◌↔◌, ◌∷◌, [], IfOk, IsTrue, length};
 ghost use Rattle.std.specs.List.{AllPass};
@@ -16,15 +16,15 @@ use sok_rules::cell::Cell;
 use sok_rules::level::LIMIT;
 use std::alloc::{AllocError, Global};
 
-/// Whether a line, without its end, is packed: it has only characters of XSB, bars and counts, and
-/// at least one wall and one bar.
+/// Returns whether a line, without its end, is packed: it has only XSB characters, bars and counts,
+/// and at least one wall and one bar.
 pub fn is_packed_line(line: &[u8]) -> bool
     ensures { result ≡ is_packed_line line.now }
 {
     is_encoded(line) && has_wall(line) && has_bar(line)
 }
 
-/// Whether a line has only bars and characters of XSB, each of these with a count or none.
+/// Returns whether a line has only bars, and XSB characters with or without a count.
 fn is_encoded(line: &[u8]) -> bool
     ensures { result ≡ is_encoded [] line.now }
 {
@@ -39,8 +39,8 @@ fn is_encoded(line: &[u8]) -> bool
     true
 }
 
-/// Whether a byte behind these digits is a bar, and there are none, or a character of XSB, and they
-/// are its count or none.
+/// Returns whether a byte is a bar and has no digits before it, or is an XSB character and has a
+/// count or no digits before it.
 fn is_mark(digits: &[u8], byte: u8) -> bool
     requires { AllPass is_ascii_digit digits.now }
     ensures { result ≡ is_mark digits.now byte }
@@ -52,7 +52,8 @@ fn is_mark(digits: &[u8], byte: u8) -> bool
     }
 }
 
-/// Whether digits are a count, or none: at most three, with a value from 1 to 128.
+/// Returns whether there are no digits, or they are a count: at most three, with a value from 1 to
+/// 128.
 fn is_count(digits: &[u8]) -> bool
     requires { AllPass is_ascii_digit digits.now }
     ensures { result ≡ is_count digits.now }
@@ -67,8 +68,8 @@ fn has_bar(line: &[u8]) -> bool
     line.iter().any(|byte| *byte == b'|')
 }
 
-/// The rows of a packed line, up to the one that is one too many, and of each row as many cells as
-/// tell whether it is too wide.
+/// Returns the rows of a packed line, up to the 129th, which is one too many. Each row has as many
+/// cells as decide whether it is too wide.
 pub(crate) fn unpack(alloc: Global, line: &[u8]) -> Result<Vec<Vec<Cell>>, AllocError>
     ensures { IfOk result (λ rows. level_of (cells_of rows.items) ≡ level_of (packed_rows line.now)) }
 {
@@ -82,7 +83,8 @@ pub(crate) fn unpack(alloc: Global, line: &[u8]) -> Result<Vec<Vec<Cell>>, Alloc
     Ok(rows)
 }
 
-/// The first part of a text between its bars, and what stands behind its bar.
+/// Returns the part of a text before its first bar, and the text after that bar. If there is no
+/// bar, the part is the whole text.
 fn cut_part(text: &[u8]) -> (&[u8], &[u8])
     requires { 0 < length text.now }
     ensures parts { parts_between text.now ≡ result.0.now ∷ parts_between result.1.now }
@@ -99,7 +101,8 @@ fn cut_part(text: &[u8]) -> (&[u8], &[u8])
     }
 }
 
-/// The cells of a part, without floor behind the 128th; where another stands there, 129 cells.
+/// Returns the cells of a part, without floor after the 128th cell. If another cell stands there,
+/// returns 129 cells, which are too many for a row.
 fn row_of(alloc: Global, part: &[u8]) -> Result<Vec<Cell>, AllocError>
     ensures { IfOk result (λ row. IsLike row.items (cells_behind [] part.now)) }
 {
@@ -121,7 +124,7 @@ fn row_of(alloc: Global, part: &[u8]) -> Result<Vec<Cell>, AllocError>
     Ok(row)
 }
 
-/// The cell that a text begins with, if it begins with one.
+/// Returns the cell with which a text begins, if it begins with one.
 fn first_cell(text: &[u8]) -> Option<Cell>
     ensures { result ≡ first_cell text.now }
 {

@@ -8,8 +8,8 @@ use sok_rules::fault::Memory;
 use sok_rules::level::Level;
 use std::alloc::Global;
 
-/// The canonical text of a level: each cell its character of XSB, floor as a space, and LF at the
-/// end of each row.
+/// Returns the canonical text of a level: the XSB character of each cell, with a space for floor,
+/// and LF at the end of each row.
 pub fn print_level(alloc: Global, level: &Level) -> Result<Vec<u8>, Memory>
     ensures { IfOk result (λ text. text.items ≡ level_text level.now) }
 {
@@ -30,7 +30,7 @@ fn print_row(text: &mut Vec<u8>, row: &[Cell]) -> Result<(), Memory>
     Ok(())
 }
 
-/// The character of XSB for a cell.
+/// Returns the XSB character of a cell.
 fn character(cell: Cell) -> u8
     ensures { result ∷ [] ≡ character cell }
 {
@@ -45,7 +45,7 @@ fn character(cell: Cell) -> u8
     }
 }
 
-/// The canonical text of a level is, by the definition of collections, that level alone, without a
+/// By the definition of collections, the canonical text of a level is that level alone, without a
 /// title.
 pub fn level_texts_are_one_level()
     ensures { TextsAreOneLevel }

@@ -1,4 +1,4 @@
-//! Titles of levels, which the notes around a board give.
+//! Titles of levels, from the notes around a board.
 
 ghost use Rattle.std.specs.Prelude.{◌≡◌, ◌∷◌, [], find, length, not, option_map, reverse};
 ghost use Rattle.std.specs.List.{list_all};
@@ -8,7 +8,7 @@ ghost use Rattle.sok_text.specs.Titles.{text_behind, title_after, title_before, 
 
 use crate::line::cut_line;
 
-/// The title that notes before and after a board give.
+/// Returns the title in the notes before and after a board. One after the board takes precedence.
 pub(crate) fn title_between<'a>(before: &'a [u8], after: &'a [u8]) -> Option<&'a [u8]>
     ensures { option_map (λ title. title.now) result
         ≡ first_text (title_after (lines after.now) ∷ title_before (lines before.now) ∷ []) }
@@ -39,7 +39,7 @@ fn title_before(notes: &[u8]) -> Option<&[u8]>
     text_behind(b";", last_full_line(notes)?)
 }
 
-/// The last line that is not blank.
+/// Returns the last line that is not blank.
 fn last_full_line(notes: &[u8]) -> Option<&[u8]>
     ensures { option_map (λ line. line.now) result
         ≡ find (λ line. not (list_all is_space line)) (reverse (lines notes.now)) }
@@ -62,7 +62,7 @@ fn is_blank_line(line: &[u8]) -> bool
     line.iter().all(|byte| is_space(*byte))
 }
 
-/// The text of a line behind a mark at its front, if it has any.
+/// Returns the trimmed text of a line after a mark at its front, if there is any.
 fn text_behind<'a>(mark: &[u8], line: &'a [u8]) -> Option<&'a [u8]>
     ensures { option_map (λ text. text.now) result ≡ text_behind mark.now line.now }
 {
@@ -73,14 +73,14 @@ fn text_behind<'a>(mark: &[u8], line: &'a [u8]) -> Option<&'a [u8]>
     if text.is_empty() { None } else { Some(text) }
 }
 
-/// A text without the spaces and tabs at its ends.
+/// Returns a text without the spaces and tabs at its ends.
 fn trim(text: &[u8]) -> &[u8]
     ensures { result.now ≡ trimmed_text text.now }
 {
     trim_back(trim_front(text))
 }
 
-/// A text without the spaces and tabs at its front.
+/// Returns a text without the spaces and tabs at its front.
 pub fn trim_front(text: &[u8]) -> &[u8]
     ensures { result.now ≡ trimmed_front text.now }
 {
@@ -101,7 +101,7 @@ fn trim_back(text: &[u8]) -> &[u8]
     &text[..end]
 }
 
-/// Whether a byte is a space or a tab.
+/// Returns whether a byte is a space or a tab.
 pub fn is_space(byte: u8) -> bool
     ensures { result ≡ is_space byte }
 {

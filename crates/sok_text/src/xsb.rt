@@ -7,7 +7,7 @@ ghost use Rattle.sok_text.specs.Xsb.{cell_of, is_board_line};
 
 use sok_rules::cell::Cell;
 
-/// The cell that a character of XSB stands for. Besides a space, `-` and `_` are floor.
+/// Returns the cell that an XSB character stands for. Floor is a space, `-` or `_`.
 pub fn cell_of(byte: u8) -> Option<Cell>
     ensures { result ≡ cell_of byte }
 {
@@ -23,8 +23,8 @@ pub fn cell_of(byte: u8) -> Option<Cell>
     }
 }
 
-/// Whether a line, without its end, belongs to a board: it has only characters of XSB, and a wall
-/// among them.
+/// Returns whether a line, without its end, belongs to a board: it has only XSB characters, and a
+/// wall among them.
 pub fn is_board_line(line: &[u8]) -> bool
     ensures { result ≡ is_board_line line.now }
 {

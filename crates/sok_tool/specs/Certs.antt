@@ -1,4 +1,4 @@
--- The certificates of the levels of a book that are settled, in files.
+-- The certificates in files of the levels of a book that are settled.
 use Rattle.std.specs.Prelude.{ℕ, ℤ, ◌≡◌, ◌≢◌, ◌<◌, ◌⊎◌, List, Option, Some, None, IfSome, IsSomeAnd, length, ⊤}
 use Rattle.std.specs.Io.KnownBytes.{Appends}
 use Rattle.sok_rules.specs.Squares.{Rows}
@@ -13,40 +13,40 @@ use Rattle.sok_engine.specs.Limits.{cert_limit}
 use Rattle.sok_files.specs.Files.{Files, cert_path}
 use Rattle.sok_settle.specs.Keeping.{Keeping, no_certs}
 
--- A text was written to a file that was made at a path, which is another than the database's and at which no whole certificate stood. Or it is what the file
--- has that is there.
+-- A text was written to a file made at a path, which is not the database's and had no whole certificate. Or the file at the path exists and its bytes are the
+-- text.
 abbrev pub KeepsText : Files Bytes → List ℕ → List ℕ → List ℕ → Type 0
 KeepsText files db path text =
     ((made : Bytes) × (path ≢ db) × files.lacks_certificate path × files.makes path made × Appends made.old made.new text)
     ⊎ ((known : Option (List ℕ)) × files.reads path known × IfSome known (λ all. all ≡ text))
 
--- one of these rows for a claim, with at most so many entries, is kept in a folder as that of the level with an id
+-- A certificate that shows a claim about these rows, with at most `limit` entries, is kept in a folder as that of the level with an id.
 pub record KeepsCert (files : Files Bytes) (db folder : List ℕ) (limit : ℕ) (id : ℤ) (rows : Rows) (shown : Claim) : Type 0 where
   pub entries : List Entry
   pub certified : Certifies rows limit shown entries
   pub kept : KeepsText files db (cert_path folder id) (text_of shown entries)
 
--- why a text is refused: it is too long; or a file can't be made or written
+-- why a text is refused: it is too long, or a file can't be made or written
 abbrev pub RefusesText : List ℕ → ToolFault → Type 0
 RefusesText text tool.TooMuch = cert_limit < length text
 RefusesText text fault = ⊤
 
--- one was found, and is refused so
+-- a certificate was found, and its text is refused with this fault
 pub record RefusesCert (limit : ℕ) (id : ℤ) (rows : Rows) (fault : ToolFault) : Type 0 where
   pub shown : Claim
   pub entries : List Entry
   pub certified : Certifies rows limit shown entries
   pub refused : RefusesText (text_of shown entries) fault
 
--- certificates in the files of a folder, beside the database of their book
+-- the certificates in the files of a folder, beside the database of their book
 abbrev pub keeping_in : Files Bytes → List ℕ → List ℕ → Keeping
 keeping_in files db folder = record { keeps = KeepsCert files db folder; refuses = RefusesCert }
 
--- or none, where no folder is given
+-- the same if a folder is given, and otherwise no certificates
 abbrev pub keeping_of : Files Bytes → List ℕ → Option (List ℕ) → Keeping
 keeping_of files db (Some folder) = keeping_in files db folder
 keeping_of files db None = no_certs
 
--- a folder is given, and there is none in which files can be made
+-- a folder is given, and it can't be used: no files can be made in it
 abbrev pub IsFolderless : Files Bytes → Option (List ℕ) → ToolFault → Type 0
 IsFolderless files folder told = IsSomeAnd folder files.lacks_folder × (told ≡ tool.WriteFailed)

@@ -31,7 +31,7 @@ use Rattle.sok_words.specs.Forms.{Form, IsPlain, Means, add, check, draw, export
 use Rattle.sok_tool.specs.Certs.{IsFolderless, keeping_of}
 use Rattle.sok_tool.specs.Databases.{Databases, IsFileless, IsNeverLacking, OfOpened, WorksOn, at}
 
--- a text is played on a level of a file: it is replayed, or the level behind it is drawn
+-- a text is played on a level of a file: it is replayed, or the level that it leads to is drawn
 abbrev pub RunsPlay : (ℕ → List ℕ → List ℕ → Answers) → (Option (List ℕ) → Type 0) → ℕ → Bytes → Result ℕ ToolFault → List ℕ → Type 0
 RunsPlay P reads n out result text = Writes (OfFile reads (Within input_limit (P n text))) out.old out.new result
 
@@ -63,23 +63,23 @@ RunsProve files databases db id cert out result =
     WorksOn (at databases accesses.Change db) (IsFileless (files.lacks cert)) (λ book after. OfOpened (files.reads cert) (λ known. ProvesBytes id known book after))
     (λ ended book after. OfOpened (files.reads cert) (λ known. WritesProof book id known after out.old out.new ended)) out result
 
--- the levels that nothing is proved of are settled, within a limit that is not refused, from one id to another, with their certificates in a folder, if one is given
+-- The levels of a span that have no verdict are settled within a limit; a bad limit is `BadLimit`. If a folder is given, their certificates are kept there.
 abbrev pub RunsSettle : Files Bytes → Databases → List ℕ → ℕ → Span → Option (List ℕ) → Bytes → Result ℕ ToolFault → Type 0
 RunsSettle files databases db limit span folder out result =
     WorksOn (at databases accesses.Settle db) (IsFolderless files folder) (SettlesSome (keeping_of files db folder) limit span)
     (λ ended book after. (IsBadLimit limit → ended ≡ Err tool.BadLimit)
     × WritesSettling (keeping_of files db folder) limit span book after out.old out.new ended) out result
 
--- the book is only read, and such an answer is written
+-- the book is only read, and one of these answers is written
 abbrev pub RunsShowing : Databases → List ℕ → (Book → Answers) → Bytes → Result ℕ ToolFault → Type 0
 RunsShowing databases db P out result =
     WorksOn (at databases accesses.Read db) IsNeverLacking MakesNone (λ ended book after. (after ≡ book) × Writes (P book) out.old out.new ended) out result
 
--- the program ends with the status of what is done so, or with that of the fault
+-- the program ends with the status of what is done, or with that of the fault
 abbrev pub EndsWith : (Result ℕ ToolFault → Type 0) → Bytes → ℕ → Type 0
 EndsWith Does err exit = (result : Result ℕ ToolFault) × Does result × Ends result err.old err.new exit
 
--- what becomes of the output, of the files and of the book that a form names, with its values
+-- what is done with the output, the files and the book that a form of words names
 abbrev pub Serves : Files Bytes → Databases → Form → Bytes → Bytes → ℕ → Type 0
 Serves files databases (list file) out err exit = Runs (OfFile (files.reads file) (Within input_limit IsListing)) out.old out.new err.old err.new exit
 Serves files databases (replay file number text) out err exit =
@@ -100,6 +100,6 @@ Serves files databases (show db (Some id)) out err exit = EndsWith (RunsShowing 
 Serves files databases (show db None) out err exit = EndsWith (RunsShowing databases db (IsBookText Overview) out) err exit
 Serves files databases (export db solutions) out err exit = EndsWith (RunsShowing databases db (IsBookText (Export solutions)) out) err exit
 
--- and what becomes of them for a job of such a form
+-- the same for a job that such a form means
 abbrev pub ServesJob : Files Bytes → Databases → Job → Bytes → Bytes → ℕ → Type 0
 ServesJob files databases job out err exit = (form : Form) → IsPlain form → Means form job → Serves files databases form out err exit

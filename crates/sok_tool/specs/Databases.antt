@@ -15,8 +15,8 @@ use Rattle.sok_keep.specs.Causes.{IsCausedFault}
 use Rattle.sok_databases.specs.declared.databases.Access.{Access}
 use Rattle.sok_databases.specs.Known.{KnownDatabases}
 
--- Of the database at one path: the connections to it, what each shows, which one may be opened there, how it may be refused, which one is given back, and
--- whether another file may have the path by then.
+-- What is known of the database at one path: the connections to it, the state that each shows, which one may be opened, how the database may be refused, which
+-- connection is given back, and whether another file may have the path by then.
 pub record Place : Type 1 where
   pub Connection : Type 0
   pub shows : Connection → State
@@ -35,40 +35,40 @@ place {C} shows known access path = record {
   moves = known.moves;
 }
 
--- of the databases at all paths
+-- what is known of the databases at all paths
 pub record Databases : Type 1 where
   pub Connection : Type 0
   pub shows : Connection → State
   pub known : KnownDatabases Connection
 
--- of those of which so much is known
+-- databases of which this is known
 abbrev pub databases_by : {C : Type 0} → (C → State) → KnownDatabases C → Databases
 databases_by {C} shows known = record { Connection = C; shows = shows; known = known }
 
--- of the one at a path, opened so
+-- the database at a path, opened with this access
 abbrev pub at : Databases → Access → List ℕ → Place
 at databases access path = place databases.shows databases.known access path
 
--- this is true of what a file has left that may be opened
+-- this is true of the bytes that an opened file may have left
 abbrev pub OfOpened : (Option (List ℕ) → Type 0) → (Option (List ℕ) → Type 0) → Type 0
 OfOpened reads P = (known : Option (List ℕ)) × reads known × P known
 
--- What was found is not opened as a book, and this is told. A database that was empty, or had the table of levels alone, is left as it was, and of it
--- `Database` is told only with a cause.
+-- A database is not opened as a book, and this fault is reported. If it was empty, or had only the table of levels, it stays as it was, and `Database` is
+-- reported only with a cause.
 abbrev pub IsNoBook : State → State → ToolFault → Type 0
 IsNoBook found left told =
     (cause : BookFault) × (told ≡ of_book cause) × IsUnopened found left cause × (HasCleanDisk left → IsKnown found → IsSame found left)
     × IsCausedOpening found left cause
 
--- its file is not there, or it has none
+-- the file that a command names can't be opened, and this is reported
 abbrev pub IsFileless : Type 0 → ToolFault → Type 0
 IsFileless lacks told = lacks × (told ≡ tool.ReadFailed)
 
 abbrev pub IsNeverLacking : ToolFault → Type 0
 IsNeverLacking told = ⊥
 
--- Why a command on a book has none to work on. Memory was refused for its words; the database is refused; what it names beside that is lacking, or the
--- database is in a transaction, and the connection is given back as it was found; or what was found is no book, and the connection is given back.
+-- Why a command on a book has none to work on: memory was refused for its words; the database is refused; what the command names beside it is missing, or the
+-- database is in a transaction, and the connection is given back as it was opened; or the database is not a book, and the connection is given back.
 pub data IsWithoutBook (db : Place) (Lacks : ToolFault → Type 0) (told : ToolFault) : Type 0 where
   unread : told ≡ tool.Memory → IsWithoutBook db Lacks told
   unconnected : db.refuses told → (told ≡ tool.Memory) ⊎ (told ≡ tool.Book refusal.Database) → IsWithoutBook db Lacks told
@@ -77,16 +77,16 @@ pub data IsWithoutBook (db : Place) (Lacks : ToolFault → Type 0) (told : ToolF
       → IsWithoutBook db Lacks told
   bookless : (found left : db.Connection) → db.opens_as found → db.closes_as left → IsNoBook (db.shows found) (db.shows left) told → IsWithoutBook db Lacks told
 
--- a book was opened, that of exactly the rows that were found in what may be opened
+-- a book was opened, with exactly the rows that were found in a database that may be opened
 abbrev pub OpensFound : (db : Place) → db.Connection → Type 0
 OpensFound db opened = (found : db.Connection) × db.opens_as found × (HasCleanDisk (db.shows opened) → Opens (db.shows found) (db.shows opened))
 
--- How a command ended is told. Or it is not told, since another file has the path of the database by then.
+-- The end of a command is reported as it is. Or it is reported as `Database`, since another file has the path of the database by then.
 abbrev pub IsTold : Type 0 → Result ℕ ToolFault → Result ℕ ToolFault → Type 0
 IsTold moves ended told = (told ≡ ended) ⊎ (moves × (told ≡ Err (tool.Book refusal.Database)))
 
--- How a command on a book ends. Where it has none nothing is written. Else a book was opened, and the command makes so of it, as it ended, which is told; a
--- stop in the middle leaves the book that was opened, or one that the command may make, and it ends with `Database` only with a cause.
+-- How a command on a book ends. Without a book, nothing is written. With one, the command makes of it what `Makes` says and its end is reported. If it stops
+-- midway, the book is as it was opened or one that the command may make. It ends with `Database` only with a cause.
 pub data WorksOn (db : Place) (Lacks : ToolFault → Type 0) (MayMake : Book → Book → Type 0) (Makes : Result ℕ ToolFault → Book → Book → Type 0) (out : Bytes)
     (result : Result ℕ ToolFault) : Type 0 where
   refused : (told : ToolFault) → IsWithoutBook db Lacks told → result ≡ Err told → Stays out → WorksOn db Lacks MayMake Makes out result

@@ -5,17 +5,17 @@ use Rattle.sok_words.specs.declared.job.Job.{Job}
 use Rattle.sok_words.specs.declared.job.Job.TheVariants as job
 use Rattle.sok_words.specs.Forms.{Form, IsPlain, Means, words_of}
 
--- these words may ask for a job: where they are those of a form, behind the program's name, it is the job of that form
+-- These words may mean a job: if they are the program's name and the words of a form, then it is the job of that form.
 abbrev pub MayAsk : List (List ℕ) → Job → Type 0
 MayAsk words job = (program : List ℕ) (form : Form) → IsPlain form → words ≡ program ∷ words_of form → Means form job
 
--- a job makes a file at a path: its certificate, or one of those in its folder
+-- a job makes a file at a path: its certificate, or one in its folder
 abbrev pub MakesAt : Job → List ℕ → Type 0
 MakesAt (job.Solve file n below limit bound (Some cert)) path = path ≡ string_bytes cert
 MakesAt (job.Settle db limit first last (Some folder)) path = (id : ℤ) × (path ≡ cert_path (string_bytes folder) id)
 MakesAt _ path = ⊥
 
--- it changes the database at a path
+-- a job changes the database at a path
 abbrev pub ChangesAt : Job → List ℕ → Type 0
 ChangesAt (job.Add db file) path = path ≡ string_bytes db
 ChangesAt (job.Offer db id text) path = path ≡ string_bytes db

@@ -1,6 +1,6 @@
-//! Each command on a book. The database is opened first, then the file that the command names, and
-//! then the book. Only `add` makes a database that is not there, and a command that changes nothing
-//! only reads it.
+//! Each command on a book. It opens the database first, then the file that the command names, and
+//! then the book. Only `add` makes a database if there is none. A command that changes nothing only
+//! reads the database.
 
 ghost use Rattle.std.specs.Prelude.{◌≡◌, Err, IfErr, IfOk, IfSome, option_map, string_bytes};
 ghost use Rattle.sqlite.specs.Held.{state};
@@ -113,8 +113,8 @@ pub(crate) fn prove<
     told
 }
 
-/// Settles the levels that nothing is proved of, from one id to another. Where a folder is given, the
-/// certificate of each that is settled is kept there.
+/// Settles the levels of a span that have no verdict. If a folder is given, the certificate of each
+/// level that is settled is kept there.
 pub(crate) fn settle<
     S: Alter + Drop,
     F: Folder + Databases<Opened = Connection<S>> + AllocGlobal,
@@ -140,7 +140,7 @@ pub(crate) fn settle<
     told
 }
 
-/// Settles the levels of a book.
+/// Settles the levels of a span of a book.
 fn settle_book<S: Alter, F: Folder + AllocGlobal, W: Write>(
     rt: &F,
     book: &mut Book<S>,
@@ -210,8 +210,8 @@ pub(crate) fn tell<S: Alter + Drop, F: Databases<Opened = Connection<S>> + Alloc
     told
 }
 
-/// What is told of how a command on a book ended. A write that failed since another file has the
-/// database's path by then is a fault of the database.
+/// Returns what is reported of a command on a book. If a write failed because another file now has
+/// the database's path, that is a fault of the database.
 fn told_by<F: Databases>(rt: &F, ended: Result<u8, ToolFault>) -> Result<u8, ToolFault>
     ensures { IsTold (F.databases rt.now).moves ended result }
 {
@@ -236,7 +236,7 @@ fn book_of<S: Alter + Drop, F: Databases<Opened = Connection<S>> + AllocGlobal>(
     opened(rt, db, found)
 }
 
-/// Opens the database at a path, then the file at another one, and then the book.
+/// Opens the database at `db`, then the file at `path`, and then the book.
 fn book_and_file<S: Alter + Drop, F: Folder + Databases<Opened = Connection<S>> + AllocGlobal>(
     rt: &F,
     db: &str,
@@ -259,7 +259,7 @@ fn book_and_file<S: Alter + Drop, F: Folder + Databases<Opened = Connection<S>> 
     }
 }
 
-/// Opens the database at a path, then looks at the folder for certificates, if one is given, and then
+/// Opens the database at a path, then checks the folder for certificates, if one is given, and then
 /// opens the book.
 fn book_and_folder<S: Alter + Drop, F: Folder + Databases<Opened = Connection<S>> + AllocGlobal>(
     rt: &F,
@@ -282,8 +282,8 @@ fn book_and_folder<S: Alter + Drop, F: Folder + Databases<Opened = Connection<S>
     opened(rt, db, connection)
 }
 
-/// Opens a database as a book. Where that is refused the connection is given back. A connection in
-/// a transaction, which no database is opened as, is `Database`.
+/// Opens a database as a book. If it is refused, the connection is given back. A connection in a
+/// transaction is `Database`; no database is opened as such a connection.
 fn opened<S: Alter + Drop, F: Databases<Opened = Connection<S>> + AllocGlobal>(
     rt: &F,
     db: &str,

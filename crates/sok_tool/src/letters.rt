@@ -18,8 +18,8 @@ use sqlite::{Alter, Connection};
 use std::alloc::Global;
 use std::io::{Read, Write};
 
-/// The letters that a word stands for: `-` for those that the input has left, at most 16,777,216
-/// bytes, and each other word for itself.
+/// Returns the letters that a word stands for. `-` stands for the rest of the input, at most
+/// 16,777,216 bytes, and any other word for itself.
 fn letters_of<R: Read>(alloc: Global, word: &str, input: &mut R) -> Result<Vec<u8>, ToolFault>
     ensures letters { IfOk result
         (λ letters. IsLetters word.now (R.remaining input.old) letters.items) }
@@ -49,7 +49,7 @@ pub(crate) fn replay<F: Folder + AllocGlobal, R: Read, W: Write>(
     command::replay(rt, path, n, letters.as_slice(), out)
 }
 
-/// Draws the n-th level of a collection as it stands after them.
+/// Draws the n-th level of a collection after the letters that a word stands for.
 pub(crate) fn draw<F: Folder + AllocGlobal, R: Read, W: Write>(
     rt: &F,
     path: &str,
@@ -67,7 +67,7 @@ pub(crate) fn draw<F: Folder + AllocGlobal, R: Read, W: Write>(
     command::draw(rt, path, n, letters.as_slice(), out)
 }
 
-/// Offers them to the level of a book with an id.
+/// Offers the letters that a word stands for to the level of a book with an id.
 pub(crate) fn offer<
     S: Alter + Drop,
     F: Databases<Opened = Connection<S>> + AllocGlobal,

@@ -1,6 +1,6 @@
 //! The program: its words, its files, its databases and streams, what it writes, and how it ends.
-//! The engines and what they share are those of `sok_play`, `sok_judge` and `sok_engine`, the files
-//! those of `sok_files`, and the databases those of `sok_databases`.
+//! The engines are in `sok_play` and `sok_judge`, and what engines share in `sok_engine`. The files
+//! are in `sok_files`, and the databases in `sok_databases`.
 //!
 //! | Module | What it holds |
 //! |---|---|

@@ -27,17 +27,17 @@ use sok_words::words::job;
 use sqlite::{Alter, Connection};
 use std::io::{Read, Write};
 
-/// Runs the program, and gives its exit status. The first word is the program's name. Without
-/// further words it plays a text of letters on a level, both from the input. Else the words are
-/// read by `job` of `sok_words`. Where TEXT is `-` the letters are read from the input. The files
-/// and the database are opened, or made, in the order in which they stand in the words. Then the
-/// database is opened as a book, where there is one, and the command runs.
+/// Runs the program and returns its exit status. The first word is the program's name. Without
+/// further words, plays a text of letters on a level, both from the input. Otherwise, `job` of
+/// `sok_words` reads the words. If TEXT is `-`, the letters are read from the input first. The
+/// files and the database are opened or made in the order of the words. Then the database, if there
+/// is one, is opened as a book, and the command runs.
 ///
-/// A fault is told as one line on the error stream. A file that can't be opened or read is
-/// `ReadFailed`, one that can't be made or written `WriteFailed`, and a database that can't be
-/// opened `Database`, also where it is not there and the command is another than `add`. Words that
-/// ask for nothing are told there too, at status 2, and a request for help or for the version on
-/// the output, at status 0.
+/// A fault is written to the error stream as one line. It is `ReadFailed` if a file can't be opened
+/// or read, and `WriteFailed` if one can't be made or written. It is `Database` if a database can't
+/// be opened, or if there is none and the command is not `add`. What is wrong with the words is
+/// written to the error stream, with status 2. Help and the version are written to the output, with
+/// status 0.
 pub fn run<
     S: Alter + Drop,
     F: Folder + Databases<Opened = Connection<S>> + AllocGlobal,
@@ -70,7 +70,7 @@ pub fn run<
     }
 }
 
-/// Runs the command that words ask for.
+/// Runs the command of a job.
 fn served<
     S: Alter + Drop,
     F: Folder + Databases<Opened = Connection<S>> + AllocGlobal,

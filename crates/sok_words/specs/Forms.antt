@@ -1,4 +1,4 @@
--- The command lines of which `job` knows the answer, and what it answers.
+-- The command lines for which the answer of `job` is specified, and that answer.
 use Rattle.std.specs.Prelude.{◌≡◌, ◌≢◌, ◌<◌, ◌≤◌, ◌^◌, ℕ, ℤ, List, [], ◌∷◌, ◌++◌, Bool, true, false, Option, Some, None, IfSome, Result, Ok, Err, codes, pos, option_map, option_to_list, string_bytes, unwrap_or, String}
 use Rattle.std.specs.Global.{Global}
 use Rattle.std.specs.Str.Parse.{IsNumeral, digits_value}
@@ -6,16 +6,16 @@ use Rattle.sok_words.specs.declared.job.Job.{Job}
 use Rattle.sok_words.specs.declared.job.Job.TheVariants as job
 use Rattle.sok_words.specs.declared.job.JobRefused.{JobRefused}
 
--- not empty, and not beginning with a hyphen
+-- a word that is not empty and does not begin with a hyphen
 abbrev pub IsValue : List ℕ → Type 0
 IsValue [] = ⊥
 IsValue (b ∷ bs) = b ∷ [] ≢ codes "-"
 
--- digits alone, of a number that 32 bits hold
+-- digits alone, of a number below 2^32
 abbrev pub IsNumber : List ℕ → Type 0
 IsNumber text = IsNumeral 10 text × (digits_value 10 text < 2 ^ 32)
 
--- digits alone, of a number that 63 bits hold
+-- digits alone, of a number below 2^63
 abbrev pub IsId : List ℕ → Type 0
 IsId text = IsNumeral 10 text × (digits_value 10 text < 2 ^ 63)
 
@@ -23,7 +23,7 @@ IsId text = IsNumeral 10 text × (digits_value 10 text < 2 ^ 63)
 abbrev pub IsPushes : List ℕ → Type 0
 IsPushes text = IsNumeral 10 text × (digits_value 10 text ≤ 1000000)
 
--- what stands in each place of a command line
+-- the words in the places and options of a command line
 pub data Form : Type 0 where
   list : List ℕ → Form
   replay : List ℕ → List ℕ → List ℕ → Form
@@ -53,12 +53,12 @@ IsPlain (settle db limit from to certs) = IsValue db × IfSome limit IsNumber ×
 IsPlain (show db id) = IsValue db × IfSome id IsId
 IsPlain (export db solutions) = IsValue db
 
--- an option and its value, where it is given
+-- an option and its value, if it is given
 abbrev pub option_words : List ℕ → Option (List ℕ) → List (List ℕ)
 option_words name None = []
 option_words name (Some value) = name ∷ value ∷ []
 
--- a flag, where it is given
+-- a flag, if it is given
 abbrev pub flag_words : List ℕ → Bool → List (List ℕ)
 flag_words name true = name ∷ []
 flag_words name false = []
@@ -88,17 +88,17 @@ limit_of (Some text) = digits_value 10 text
 abbrev pub id_value : List ℕ → ℤ
 id_value text = pos (digits_value 10 text)
 
--- the first one, where they are given or not
+-- the first id of a span, or 1 if none is given
 abbrev pub from_of : Option (List ℕ) → ℤ
 from_of None = pos 1
 from_of (Some text) = id_value text
 
--- and the last one
+-- the last id of a span, or the highest if none is given
 abbrev pub to_of : Option (List ℕ) → ℤ
 to_of None = pos 9223372036854775807
 to_of (Some text) = id_value text
 
--- the job has the values of the form; of letters and of an id that are left out it has none
+-- The job has the values of the form. Letters that are left out are an empty text, and an id that is left out is none.
 abbrev pub Means : Form → Job → Type 0
 Means (list file) (job.List a) = (string_bytes a ≡ file)
 Means (replay file number text) (job.Replay a b c) = (string_bytes a ≡ file) × (b ≡ digits_value 10 number) × (string_bytes c ≡ text)
@@ -122,7 +122,7 @@ Means _ _ = ⊥
 abbrev pub IsHyphen : String Global → Type 0
 IsHyphen word = string_bytes word ≡ codes "-"
 
--- a certificate is to be written to the standard input, or it or letters are to be read from it with the collection
+-- a certificate is to be written to the standard input, or a certificate or letters are to be read from it after the collection
 abbrev pub MisusesInput : Job → Type 0
 MisusesInput (job.Replay a n text) = IsHyphen a × IsHyphen text
 MisusesInput (job.Draw a n text) = IsHyphen a × IsHyphen text
@@ -139,7 +139,7 @@ LacksFolder _ = ⊥
 abbrev pub IsAllowed : Job → Type 0
 IsAllowed job = (MisusesInput job → ⊥) × (LacksFolder job → ⊥)
 
--- the answer to a form: its job, or memory ran out
+-- the answer to a form: its job, or that memory was refused
 abbrev pub Answers : Form → Result Job JobRefused → Type 0
 Answers form (Ok made) = Means form made
 Answers form (Err refused) = refused.status ≡ 6

@@ -1,27 +1,27 @@
--- What the matches of a form hold.
+-- The values that the parser finds in the words of a form.
 use Rattle.std.specs.Prelude.{◌≡◌, ℕ, Bool, true, false, List, Option, Some, None, IfSome, codes, option_map}
 use Rattle.std.specs.Str.Parse.{digits_value}
 use Rattle.clap.specs.Words.{Row, Text, first_of, one_of}
 use Rattle.clap.specs.Lexer.{without_minus}
 use Rattle.sok_words.specs.Forms.{Form, IsId, IsNumber, IsPushes, limit_of, list, replay, draw, solve, check, add, offer, offers, prove, settle, show, export}
 
--- under the name stand the digits of the number
+-- the value of the name is the digits of the number
 abbrev pub HasNumber : List Row → Text → Text → ℕ → Type 0
 HasNumber rows name digits number = IsNumber digits × (one_of name rows ≡ Some (without_minus digits)) × (digits_value 10 digits ≡ number)
 
--- under the name stand the digits of a number of pushes, where it is given, and nothing where it is not
+-- the value of the name is the digits of a number of pushes, if it is given, and otherwise there is none
 abbrev pub HasPushes : List Row → Text → Option Text → Type 0
 HasPushes rows name digits = IfSome digits IsPushes × (one_of name rows ≡ option_map (λ d. without_minus d) digits)
 
--- under the name stand the digits of an id
+-- the value of the name is the digits of an id
 abbrev pub HasId : List Row → Text → Text → Type 0
 HasId rows name digits = IsId digits × (one_of name rows ≡ Some digits)
 
--- and so where it is given, and nothing where it is not
+-- the same if it is given, and otherwise there is none
 abbrev pub HasOptionalId : List Row → Text → Option Text → Type 0
 HasOptionalId rows name digits = IfSome digits IsId × (one_of name rows ≡ digits)
 
--- under the name stands whether the flag is given
+-- the value of a flag: whether it is given
 abbrev pub flag_text : Bool → Text
 flag_text true = codes "true"
 flag_text false = codes "false"

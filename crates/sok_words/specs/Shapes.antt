@@ -1,4 +1,4 @@
--- What the program's command is made of.
+-- The rules that make up the program's command.
 use Rattle.std.specs.Prelude.{◌≡◌, List, [], ◌∷◌, Some, true, false, codes, fold, negsuc, pos}
 use Rattle.clap.specs.Words.{App, Rule, Text, app_of, new_app, new_rule, rule_of, with_rule, with_subcommand}
 use Rattle.clap.specs.Simple.{on_top}
@@ -37,32 +37,32 @@ path_rule name = record (new_rule name) { long = Some name; value_names = 1 }
 abbrev pub flag_rule : Text → Rule
 flag_rule name = record (new_rule name) { long = Some name; action = Some action.SetTrue }
 
--- an id, which may be left out
+-- an id that may be left out
 abbrev pub optional_id_rule : Text → Rule
 optional_id_rule id = record (new_rule id) { parser = Some (vp.Signed (negsuc 9223372036854775807) (pos 9223372036854775807)) }
 
 abbrev pub id_rule : Text → Rule
 id_rule id = record (optional_id_rule id) { required = true }
 
--- an id to end at
+-- the last id of a span
 abbrev pub last_rule : Text → Rule
 last_rule name = record (optional_id_rule name) { long = Some name; value_names = 1 }
 
--- and one to begin at
+-- the first id of a span
 abbrev pub first_rule : Text → Rule
 first_rule name = record (last_rule name) { defaults = codes "1" ∷ [] }
 
--- the place or the option is read by the rule, and holds for its own command alone
+-- the place or option is read by the rule, and is not global
 pub record Follows (rule : Rule) (arg : Arg) : Type 0 where
   pub rule_is : rule_of arg ≡ rule
   pub local : arg.global ≡ false
 
--- the command is that of the app, and each of its options holds for itself alone
+-- the command is that of the app, and none of its options is global
 pub record Builds (app : App) (command : Command) : Type 0 where
   pub app_is : app_of command ≡ app
   pub local : (out-Command command).has_globals ≡ false
 
--- the rule of a place of the kind with that name
+-- the rule of a place with this kind and name
 abbrev pub rule_of_kind : Kind → Text → Rule
 rule_of_kind kind.Text name = required_rule name
 rule_of_kind kind.Optional name = new_rule name
@@ -87,7 +87,7 @@ own_app name places = fold with_place (new_app name) places
 abbrev pub with_own : App → Subcommand → App
 with_own app subcommand = with_subcommand app (own_app subcommand.name.now subcommand.places.now).top
 
--- the program's command before its subcommands, of which one has to be given; it has a version
+-- the program's command without its subcommands, one of which is required; it has a version
 abbrev pub sok_top : App
 sok_top = on_top (λ s. record s { subcommand_required = true; has_version = true }) (new_app (codes "sok"))
 

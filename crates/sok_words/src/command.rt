@@ -13,7 +13,7 @@ Plays, solves and proves levels of Sokoban: what it answers is proved.
 Without a command it reads a line of letters from standard input, and behind it a collection, and
 plays the letters on the first level.";
 
-/// The version, and what proved it.
+/// The version of the program, and of the prover.
 const VERSION: &str = "1.0\nproved with rattle-kit-13f logic dac8208d650f15bf";
 
 const AFTER_HELP: &str = "\
@@ -29,7 +29,7 @@ A fault is one line on the error stream: fault NUMBER NAME, and what it names. R
 letters, bytes and entries are counted from 0 there, and lines from 1. With status 5 a second line
 tells what failed.";
 
-/// The program's command.
+/// Returns the program's command.
 pub(crate) fn sok_command<'a>(alloc: Global) -> Result<Command<'a>, AllocError>
     ensures { IfOk result (Builds sok_app) }
 {
@@ -41,7 +41,7 @@ pub(crate) fn sok_command<'a>(alloc: Global) -> Result<Command<'a>, AllocError>
     Ok(command)
 }
 
-/// The program's command before its subcommands, of which one has to be given.
+/// Returns the program's command without its subcommands, one of which is required.
 fn top_command<'a>(alloc: Global) -> Command<'a>
     ensures { Builds sok_top result }
 {

@@ -1,8 +1,8 @@
-//! The words of a command line, and what they ask for.
+//! The words of a command line, and the job that they mean.
 //!
 //! | Module | What it holds |
 //! |---|---|
-//! | `job` | what a command line asks for, or why it asks for nothing |
+//! | `job` | the job that a command line means, or why it means none |
 //! | `words` | reading the words |
 //! | `command` | the program's command, with its help (private) |
 //! | `subcommand` | the subcommands, with their help (private) |

@@ -5,8 +5,8 @@ ghost use Rattle.sok_words.specs.Shapes.{Follows, rule_of_kind};
 use clap::{Arg, ArgAction, value_parser};
 use std::alloc::Global;
 
-/// What is read in a place. One for pushes, a limit, a first or a last id, a flag, a path or a folder is
-/// an option.
+/// What is read in a place. `Pushes`, `Limit`, `First`, `Last`, `Flag`, `Path` and `Folder` are
+/// options.
 #[derive(Clone, Copy)]
 pub(crate) enum Kind {
     Text,
@@ -16,12 +16,12 @@ pub(crate) enum Kind {
     Id,
     /// An id that may be left out.
     OptionalId,
-    /// A number of pushes.
+    /// A number of pushes, at most 1,000,000.
     Pushes,
     Limit,
-    /// An id to begin at.
+    /// The first id of a span.
     First,
-    /// An id to end at.
+    /// The last id of a span.
     Last,
     Flag,
     Path,
@@ -29,7 +29,7 @@ pub(crate) enum Kind {
     Folder,
 }
 
-/// A place of a subcommand.
+/// A place or an option of a subcommand.
 #[derive(Clone, Copy)]
 pub(crate) struct Place {
     name: &'static str,
@@ -38,7 +38,7 @@ pub(crate) struct Place {
 }
 
 impl Place {
-    /// What the parser is told of it.
+    /// Returns the argument for the parser.
     pub(crate) fn arg<'a>(self, alloc: Global) -> Arg<'a>
         ensures { Follows (rule_of_kind self.kind self.name.now) result }
     {

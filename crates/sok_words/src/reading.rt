@@ -12,7 +12,7 @@ use crate::values::{
 use clap::ArgMatches;
 use std::alloc::Global;
 
-/// The job that the subcommand's values ask for.
+/// Returns the job of the subcommand that was given.
 pub(crate) fn job_in(alloc: Global, matches: &ArgMatches<'_>) -> Result<Job, JobRefused>
     ensures { (form : Form) (name : List ℕ) (rows : List Row)
         → subcommand_rows_of matches.now ≡ Some (name, rows) → HasValues form name rows
@@ -24,7 +24,7 @@ pub(crate) fn job_in(alloc: Global, matches: &ArgMatches<'_>) -> Result<Job, Job
     job_of(alloc, name, values)
 }
 
-/// The job of the subcommand with this name.
+/// Returns the job of the subcommand with this name.
 fn job_of(alloc: Global, name: &str, values: &ArgMatches<'_>) -> Result<Job, JobRefused>
     ensures { (form : Form) → HasValues form name.now (rows_of (found_of values.now)) → Answers form result }
 {
@@ -45,7 +45,7 @@ fn job_of(alloc: Global, name: &str, values: &ArgMatches<'_>) -> Result<Job, Job
     }
 }
 
-/// The job of `replay`.
+/// Reads the job of `replay`.
 fn replay_of(alloc: Global, values: &ArgMatches<'_>) -> Result<Job, JobRefused>
     ensures { (form : Form) → HasValues form (codes "replay") (rows_of (found_of values.now))
         → Answers form result }
@@ -55,7 +55,7 @@ fn replay_of(alloc: Global, values: &ArgMatches<'_>) -> Result<Job, JobRefused>
     Ok(Job::Replay(file, number, text))
 }
 
-/// The job of `draw`.
+/// Reads the job of `draw`.
 fn draw_of(alloc: Global, values: &ArgMatches<'_>) -> Result<Job, JobRefused>
     ensures { (form : Form) → HasValues form (codes "draw") (rows_of (found_of values.now))
         → Answers form result }
@@ -65,7 +65,7 @@ fn draw_of(alloc: Global, values: &ArgMatches<'_>) -> Result<Job, JobRefused>
     Ok(Job::Draw(file, number, text.unwrap_or(String::new(alloc))))
 }
 
-/// The job of `solve`.
+/// Reads the job of `solve`.
 fn solve_of(alloc: Global, values: &ArgMatches<'_>) -> Result<Job, JobRefused>
     ensures { (form : Form) → HasValues form (codes "solve") (rows_of (found_of values.now))
         → Answers form result }
@@ -78,7 +78,7 @@ fn solve_of(alloc: Global, values: &ArgMatches<'_>) -> Result<Job, JobRefused>
     Ok(Job::Solve(file, number, below, limit, bound, path))
 }
 
-/// The job of `check`.
+/// Reads the job of `check`.
 fn check_of(alloc: Global, values: &ArgMatches<'_>) -> Result<Job, JobRefused>
     ensures { (form : Form) → HasValues form (codes "check") (rows_of (found_of values.now))
         → Answers form result }
@@ -88,7 +88,7 @@ fn check_of(alloc: Global, values: &ArgMatches<'_>) -> Result<Job, JobRefused>
     Ok(Job::Check(file, number, cert))
 }
 
-/// The job of `add`.
+/// Reads the job of `add`.
 fn add_of(alloc: Global, values: &ArgMatches<'_>) -> Result<Job, JobRefused>
     ensures { (form : Form) → HasValues form (codes "add") (rows_of (found_of values.now))
         → Answers form result }
@@ -98,7 +98,7 @@ fn add_of(alloc: Global, values: &ArgMatches<'_>) -> Result<Job, JobRefused>
     Ok(Job::Add(db, file))
 }
 
-/// The job of `offer`.
+/// Reads the job of `offer`.
 fn offer_of(alloc: Global, values: &ArgMatches<'_>) -> Result<Job, JobRefused>
     ensures { (form : Form) → HasValues form (codes "offer") (rows_of (found_of values.now))
         → Answers form result }
@@ -108,7 +108,7 @@ fn offer_of(alloc: Global, values: &ArgMatches<'_>) -> Result<Job, JobRefused>
     Ok(Job::Offer(db, id, text))
 }
 
-/// The job of `offers`.
+/// Reads the job of `offers`.
 fn offers_of(alloc: Global, values: &ArgMatches<'_>) -> Result<Job, JobRefused>
     ensures { (form : Form) → HasValues form (codes "offers") (rows_of (found_of values.now))
         → Answers form result }
@@ -118,7 +118,7 @@ fn offers_of(alloc: Global, values: &ArgMatches<'_>) -> Result<Job, JobRefused>
     Ok(Job::Offers(db, file))
 }
 
-/// The job of `prove`.
+/// Reads the job of `prove`.
 fn prove_of(alloc: Global, values: &ArgMatches<'_>) -> Result<Job, JobRefused>
     ensures { (form : Form) → HasValues form (codes "prove") (rows_of (found_of values.now))
         → Answers form result }
@@ -128,7 +128,7 @@ fn prove_of(alloc: Global, values: &ArgMatches<'_>) -> Result<Job, JobRefused>
     Ok(Job::Prove(db, id, cert))
 }
 
-/// The job of `settle`.
+/// Reads the job of `settle`.
 fn settle_of(alloc: Global, values: &ArgMatches<'_>) -> Result<Job, JobRefused>
     ensures { (form : Form) → HasValues form (codes "settle") (rows_of (found_of values.now))
         → Answers form result }
@@ -141,7 +141,7 @@ fn settle_of(alloc: Global, values: &ArgMatches<'_>) -> Result<Job, JobRefused>
     Ok(Job::Settle(db, limit, from, to, folder))
 }
 
-/// The job of `show`.
+/// Reads the job of `show`.
 fn show_of(alloc: Global, values: &ArgMatches<'_>) -> Result<Job, JobRefused>
     ensures { (form : Form) → HasValues form (codes "show") (rows_of (found_of values.now))
         → Answers form result }
@@ -151,7 +151,7 @@ fn show_of(alloc: Global, values: &ArgMatches<'_>) -> Result<Job, JobRefused>
     Ok(Job::Show(db, id))
 }
 
-/// The job of `export`.
+/// Reads the job of `export`.
 fn export_of(alloc: Global, values: &ArgMatches<'_>) -> Result<Job, JobRefused>
     ensures { (form : Form) → HasValues form (codes "export") (rows_of (found_of values.now))
         → Answers form result }
@@ -161,7 +161,7 @@ fn export_of(alloc: Global, values: &ArgMatches<'_>) -> Result<Job, JobRefused>
     Ok(Job::Export(db, solutions))
 }
 
-/// A collection, and the number of a level in it.
+/// Reads the path of a collection and the number of a level in it.
 fn level_of(alloc: Global, values: &ArgMatches<'_>) -> Result<(String, u32), JobRefused>
     ensures file { (file : List ℕ) → first_of (codes "FILE") (rows_of (found_of values.now)) ≡ Some file
         → IfOk result (λ level. string_bytes level.0 ≡ file) }
@@ -178,7 +178,7 @@ fn level_of(alloc: Global, values: &ArgMatches<'_>) -> Result<(String, u32), Job
     Ok((file, number))
 }
 
-/// A book, and the id of a level in it.
+/// Reads the path of a book and the id of a level in it.
 fn entry_of(alloc: Global, values: &ArgMatches<'_>) -> Result<(String, i64), JobRefused>
     ensures db { (db : List ℕ) → first_of (codes "DB") (rows_of (found_of values.now)) ≡ Some db
         → IfOk result (λ entry. string_bytes entry.0 ≡ db) }

@@ -10,7 +10,7 @@ use crate::place::{
 use clap::Command;
 use std::alloc::{AllocError, Global};
 
-/// A subcommand: what it does, what it writes, and its places and options in turn.
+/// A subcommand: what it does, what it writes, and its places and options in order.
 #[derive(Clone, Copy)]
 pub(crate) struct Subcommand {
     name: &'static str,
@@ -20,7 +20,7 @@ pub(crate) struct Subcommand {
 }
 
 impl Subcommand {
-    /// The command of it alone.
+    /// Returns the parser's command for this subcommand alone.
     pub(crate) fn command<'a>(&self, alloc: Global) -> Result<Command<'a>, AllocError>
         ensures { IfOk result (Builds (own_app self.now.name.now self.now.places.now)) }
     {
@@ -34,7 +34,7 @@ impl Subcommand {
     }
 }
 
-/// The subcommands in the order of the help.
+/// Returns the subcommands in the order of the help.
 pub(crate) fn subcommands() -> [Subcommand; 12]
     ensures { fold with_own sok_top result ≡ sok_app }
 {

@@ -11,7 +11,7 @@ use crate::job::JobRefused;
 use clap::ArgMatches;
 use std::alloc::Global;
 
-/// Memory was wanting.
+/// Returns the refusal for want of memory.
 pub(crate) fn out_of_memory(alloc: Global) -> JobRefused
     ensures { result.status ≡ 6 }
 {
@@ -21,7 +21,7 @@ pub(crate) fn out_of_memory(alloc: Global) -> JobRefused
     }
 }
 
-/// A value is missing. The parser refuses such words, so this is never answered.
+/// Returns the refusal for a missing value. The parser refuses such words, so this is never used.
 pub(crate) fn missing(alloc: Global) -> JobRefused {
     JobRefused {
         text: String::new(alloc),
@@ -29,7 +29,7 @@ pub(crate) fn missing(alloc: Global) -> JobRefused {
     }
 }
 
-/// The value under this name.
+/// Returns the value of this name.
 pub(crate) fn text_of(
     alloc: Global,
     values: &ArgMatches<'_>,
@@ -44,7 +44,7 @@ pub(crate) fn text_of(
     }
 }
 
-/// The value of an option, where it is given.
+/// Returns the value of this name, if it is given.
 pub(crate) fn option_of(
     alloc: Global,
     values: &ArgMatches<'_>,
@@ -62,14 +62,14 @@ pub(crate) fn option_of(
     }
 }
 
-/// Whether the flag of this name is given.
+/// Returns whether the flag of this name is given.
 pub(crate) fn flag_of(values: &ArgMatches<'_>, name: &str) -> bool
     ensures { (flag : Bool) → HasFlag (rows_of (found_of values.now)) name.now flag → result ≡ flag }
 {
     values.get_flag(name)
 }
 
-/// The number under this name.
+/// Returns the number of this name.
 pub(crate) fn number_of(
     alloc: Global,
     values: &ArgMatches<'_>,
@@ -85,7 +85,7 @@ pub(crate) fn number_of(
     }
 }
 
-/// The number of pushes under this name, where it is given.
+/// Returns the number of pushes of this name, if it is given.
 pub(crate) fn optional_number_of(values: &ArgMatches<'_>, name: &str) -> Option<u32>
     ensures { (digits : Option (List ℕ))
         → HasPushes (rows_of (found_of values.now)) name.now digits
@@ -97,7 +97,7 @@ pub(crate) fn optional_number_of(values: &ArgMatches<'_>, name: &str) -> Option<
     }
 }
 
-/// The id under this name.
+/// Returns the id of this name.
 pub(crate) fn id_of(alloc: Global, values: &ArgMatches<'_>, name: &str) -> Result<i64, JobRefused>
     ensures { (digits : List ℕ) → HasId (rows_of (found_of values.now)) name.now digits
         → IsOkAnd result (λ n. n ≡ id_value digits) }
@@ -108,7 +108,7 @@ pub(crate) fn id_of(alloc: Global, values: &ArgMatches<'_>, name: &str) -> Resul
     }
 }
 
-/// The id under this name, where it is given.
+/// Returns the id of this name, if it is given.
 pub(crate) fn optional_id_of(values: &ArgMatches<'_>, name: &str) -> Option<i64>
     ensures { (digits : Option (List ℕ))
         → HasOptionalId (rows_of (found_of values.now)) name.now digits

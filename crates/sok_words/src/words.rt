@@ -12,8 +12,8 @@ use clap::Error;
 use clap::error::ErrorKind;
 use std::alloc::Global;
 
-/// Reads the words of a command line, of which the first is the program's name. The others are a
-/// subcommand, its places and its options:
+/// Reads the words of a command line. The first is the program's name. The others are a subcommand,
+/// its places and its options:
 ///
 /// ```text
 /// list FILE · replay FILE N TEXT · draw FILE N [TEXT]
@@ -23,11 +23,12 @@ use std::alloc::Global;
 /// export DB [--solutions]
 /// ```
 ///
-/// Places, PATH and FOLDER that are not empty and do not begin with a hyphen, N and S below 2 ^ 32,
-/// K up to 1,000,000 and ID below 2 ^ 63 in digits alone, are read as they stand. S is 100,000 where it
-/// is left out, the ID behind `--from` 1, and the one behind `--to` the highest. Other words are read or refused as `clap` does it; but `-`, which is
-/// the standard input, is refused as PATH, and as FILE with TEXT or CERT in one command, and an empty
-/// FOLDER is.
+/// These are read as they are: places, PATH and FOLDER that are not empty and do not begin with a
+/// hyphen; and, in digits alone, N and S below 2^32, K up to 1,000,000 and ID below 2^63. If S is
+/// left out, it is 100,000. If the ID after `--from` is left out, it is 1, and the one after `--to`
+/// is the highest. Other words are read or refused as `clap` does. But `-`, which is the standard
+/// input, is refused as PATH, and as both FILE and TEXT or CERT of a command; an empty FOLDER is
+/// refused too.
 pub fn job(alloc: Global, words: &[String]) -> Result<Job, JobRefused>
     ensures answers { (program : List ℕ) (form : Form) → IsPlain form
         → map (λ word. string_bytes word) words.now ≡ program ∷ words_of form
@@ -44,7 +45,7 @@ pub fn job(alloc: Global, words: &[String]) -> Result<Job, JobRefused>
     }
 }
 
-/// A job that was read, unless it misuses the standard input or has a folder without a name.
+/// Returns a job that was read, unless it misuses the standard input or its folder has no name.
 fn allowed(alloc: Global, read: Result<Job, JobRefused>) -> Result<Job, JobRefused>
     ensures answers { (form : Form) → IsPlain form → Answers form read → Answers form result }
     ensures allowed { IfOk result IsAllowed }
@@ -66,7 +67,7 @@ For more information, try '--help'.\n",
     Ok(job)
 }
 
-/// Whether a job would write to the standard input, or read two texts from it.
+/// Returns whether a job would write to the standard input, or read two texts from it.
 fn misuses_input(job: &Job) -> bool
     ensures { IsTrue result ↔ MisusesInput job.now }
 {
@@ -79,7 +80,7 @@ fn misuses_input(job: &Job) -> bool
     }
 }
 
-/// Whether a job would keep certificates in a folder without a name.
+/// Returns whether a job would keep certificates in a folder without a name.
 fn lacks_folder(job: &Job) -> bool
     ensures { IsTrue result ↔ LacksFolder job.now }
 {
@@ -89,7 +90,7 @@ fn lacks_folder(job: &Job) -> bool
     }
 }
 
-/// A refusal of words that `clap` reads.
+/// Returns the refusal of words that `clap` accepts.
 fn misused(alloc: Global, text: &str) -> JobRefused {
     match String::from_str(alloc, text) {
         Ok(text) => JobRefused { text, status: 2 },
@@ -97,7 +98,8 @@ fn misused(alloc: Global, text: &str) -> JobRefused {
     }
 }
 
-/// The text of an error, or of the help or the version that was asked for.
+/// Returns the refusal with the text of an error, or with the help or the version that was asked
+/// for.
 fn refused(alloc: Global, error: &Error) -> JobRefused
     ensures { kind_of error.now ≡ ErrorKind.OutOfMemory → result.status ≡ 6 }
 {
