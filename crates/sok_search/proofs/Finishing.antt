@@ -16,6 +16,7 @@ use Rattle.sok_cert.specs.Reason.TheVariants as reason
 use Rattle.sok_state.specs.declared.key.Key.{Key}
 use Rattle.sok_state.specs.declared.push.Push.{Push}
 use Rattle.sok_state.specs.Keys.{IsKeyOf, key_position}
+use Rattle.sok_state.specs.Pushes.{IsLegal}
 use Rattle.sok_state.specs.Tables.{HasDistinctKeys, IsAt}
 use Rattle.sok_state.proofs.States.{keys_equal, key-of-itself}
 use Rattle.sok_cert.specs.Closed.{IsBarredBy, IsClosed, IsPosition, IsReasoned, is_expanded, node_of, entry_position, rest_of}
@@ -28,7 +29,7 @@ use Rattle.sok_closed.proofs.Starting.{one-starts}
 use Rattle.sok_search.specs.declared.note.Note.{Note}
 use Rattle.sok_search.specs.declared.note.Standing.{Standing}
 use Rattle.sok_search.specs.declared.note.Standing.TheVariants as standing
-use Rattle.sok_search.specs.Searches.{Progress, IsMet, IsState, IsSearch, IsNoted, Stands}
+use Rattle.sok_search.specs.Searches.{Progress, AreEnough, IsMet, IsState, IsSearch, IsNoted, Stands}
 use Rattle.sok_search.specs.Finished.{AreFirstEntries, IsEntryOf, IsReasonOf, ReasonBars}
 use Rattle.sok_search.proofs.StatesByIndex.{known-at}
 
@@ -142,14 +143,20 @@ found-whole : (b : BoardView) (p : Progress) → p.frame.aim.whole ≡ true → 
 found-whole b p whole key depth push (inl found) = found
 found-whole b p whole key depth push (inr left) = absurd (true≢false (sym whole ∙ left.part))
 
+-- if every state is kept, the chosen pushes are all legal ones
+chosen-whole : (b : BoardView) (p : Progress) → p.frame.aim.whole ≡ true → (key : Key) (chosen : List Push) → AreEnough b p.frame.aim.whole key chosen → (push : Push)
+    → IsLegal b key push → Contains chosen push
+chosen-whole b p whole key chosen (inl all) push legal = all push legal
+chosen-whole b p whole key chosen (inr (part, _)) push legal = absurd (true≢false (sym whole ∙ part))
+
 followed-standing : (b : BoardView) → IsAccepted b → (claim : Claim) (p : Progress) → p.frame.aim.whole ≡ true → (entries : List Entry)
     → IsLooking node_of b (length (boxes_of b)) entries p.table → (i : ℕ) (e : Entry) → Contains entries e
     → (made : Made b claim p i e) (s : Standing) → Stands b p i made.key made.depth s → IsReasonOf b claim made.key.least made.key.boxes made.depth s e.reason
     → IsTrue (is_expanded e.reason) → IsFollowed node_of b entries (node_of e)
-followed-standing b accepted claim p whole entries looking i e listed made (standing.Expanded bound) (prices, unsolved, met) why expanded =
+followed-standing b accepted claim p whole entries looking i e listed made (standing.Expanded bound) (prices, unsolved, (chosen, enough, met)) why expanded =
     IsFollowed-found node_of b (length (boxes_of b)) entries p.table looking e listed made.key (key-made b accepted claim p i e made)
     (λ push legal. subst (λ depth. IsFound b p.table made.key depth push) (sym made.entry.depth_is)
-    (found-whole b p whole made.key made.depth push (met push legal)))
+    (found-whole b p whole made.key made.depth push (met push (chosen-whole b p whole made.key chosen enough push legal))))
 followed-standing b accepted claim p whole entries looking i e listed made (standing.Open bound) stands why expanded = absurd
     (barred b e.player e.boxes claim e.depth e.reason expanded (bars-made b claim p i e made why))
 followed-standing b accepted claim p whole entries looking i e listed made standing.Dead stands why expanded = absurd

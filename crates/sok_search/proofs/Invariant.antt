@@ -15,7 +15,7 @@ use Rattle.sok_search.specs.declared.note.Note.{Note}
 use Rattle.sok_search.specs.declared.note.Origin.{Origin}
 use Rattle.sok_search.specs.declared.note.Standing.{Standing}
 use Rattle.sok_search.specs.declared.note.Standing.TheVariants.{Open, Expanded, Dead, Lost}
-use Rattle.sok_search.specs.Searches.{Frame, Progress, IsBeaten, IsBegun, IsCome, IsFrom, IsLater, IsLeftOut, IsMet, IsNoted, IsReached, IsSearch, IsSolvedIn, IsState, Stands}
+use Rattle.sok_search.specs.Searches.{Frame, Progress, AreEnough, IsBeaten, IsBegun, IsCome, IsFrom, IsLater, IsLeftOut, IsMet, IsNoted, IsReached, IsSearch, IsSolvedIn, IsState, Stands}
 use Rattle.sok_search.specs.Steps.{Grows, knowing}
 
 pub Grows-refl : (table : Entries) → Grows table table
@@ -72,8 +72,15 @@ pub stands-along : (b : BoardView) (p q : Progress) → IsLater b p.frame q.fram
     → (i : ℕ) (key : Key) (depth : ℕ) (s : Standing) → (Contains p.queue i → Contains q.queue i) → Stands b p i key depth s → Stands b q i key depth s
 stands-along b p q same grows better i key depth (Open bound) waits (prices, inl waited) = (prices, inl (waits waited))
 stands-along b p q same grows better i key depth (Open bound) waits (prices, inr beaten) = (prices, inr (better (depth + bound) beaten))
-stands-along b p q same grows better i key depth (Expanded bound) waits (prices, unsolved, met) =
-    (prices, unsolved, λ push legal. met-along b p q same.aim grows key depth push (met push legal))
+stands-along b p q same grows better i key depth (Expanded bound) waits (prices, unsolved, (chosen, enough, met)) = (
+  prices,
+  unsolved,
+  (
+    chosen,
+    subst (λ aim. AreEnough b aim.whole key chosen) (sym same.aim) enough,
+    λ push among. met-along b p q same.aim grows key depth push (met push among),
+  ),
+)
 stands-along b p q same grows better i key depth Dead waits dead = dead
 stands-along b p q same grows better i key depth (Lost place) waits lost =
     lost-kept b key.least key.boxes (losses_of p.frame.losses) place lost (losses_of q.frame.losses) same.kept

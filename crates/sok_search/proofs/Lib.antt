@@ -5,6 +5,7 @@ pub mod Certified
 pub mod Chains
 pub mod Changing
 pub mod Concluding
+pub mod Corralling
 pub mod Filling
 pub mod Finishing
 pub mod FollowedPushes

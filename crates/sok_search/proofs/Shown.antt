@@ -1,9 +1,10 @@
 -- What a search shows whose states are done with, whole or not: they are known, and those that it left out agree with what is claimed.
-use Rattle.std.proofs.Common.{ℕ, ◌≡◌, ◌≤◌, ◌+◌, ◌⊎◌, inl, inr, Some, true, false, arith, slice_get}
+use Rattle.std.proofs.Common.{ℕ, ◌≡◌, ◌≤◌, ◌+◌, ◌⊎◌, inl, inr, List, Contains, Some, true, false, arith, slice_get}
 use Rattle.std.specs.Map.{values_of}
 use Rattle.sok_rules.specs.declared.cell.Dir.{Dir}
 use Rattle.sok_rules.specs.Play.{After, Position, pushes, start, step}
 use Rattle.sok_rules.specs.States.{Same}
+use Rattle.sok_corral.proofs.Corrals.{solves-Same}
 use Rattle.sok_rules.proofs.Man.{IsStanding-start}
 use Rattle.sok_rules.proofs.Walking.{Same-step, Same-sym, Same-trans}
 use Rattle.sok_board.specs.Area.{BoardView, IsAccepted}
@@ -17,11 +18,12 @@ use Rattle.sok_alone.proofs.Losing.{lost-never}
 use Rattle.sok_cert.specs.Claim.{Claim}
 use Rattle.sok_cert.specs.Claim.TheVariants.{Pushes, Unsolvable}
 use Rattle.sok_cert.specs.Closed.{IsTrueOf, rest_of}
-use Rattle.sok_cert.proofs.Barring.{Agrees, Agrees-barred, Agrees-deeper}
+use Rattle.sok_cert.proofs.Barring.{Agrees, Agrees-barred, Agrees-deeper, Agrees-more}
 use Rattle.sok_closed.proofs.Followed.{leads-pushed}
 use Rattle.sok_closed.proofs.Looking.{standing-after}
-use Rattle.sok_cert.proofs.KnownPositions.{AllAgree, IsTrueOf-known}
+use Rattle.sok_cert.proofs.KnownPositions.{AllAgree, IsTrueOf-agrees}
 use Rattle.sok_closed.proofs.KnownPositions.{LeadsOn, solved-Same}
+use Rattle.sok_corral.proofs.Rearranging.{Rearranges, all-agree}
 use Rattle.sok_state.specs.declared.key.Key.{Key}
 use Rattle.sok_state.specs.declared.push.Push.{Push}
 use Rattle.sok_state.specs.Pushes.{IsLegal, LeadsTo}
@@ -30,7 +32,7 @@ use Rattle.sok_state.specs.Keys.{key_position}
 use Rattle.sok_search.specs.declared.note.Standing.{Standing}
 use Rattle.sok_search.specs.declared.note.Standing.TheVariants.{Open, Expanded, Dead, Lost}
 use Rattle.sok_search.specs.Finished.{AreDone, CostsEnough, IsAtMost, IsDone}
-use Rattle.sok_search.specs.Searches.{Progress, IsBeaten, IsDead, IsMet, IsSearch, Stands}
+use Rattle.sok_search.specs.Searches.{Progress, IsBeaten, IsDead, IsFollowedUp, IsMet, IsSearch, IsSolved, MayBegin, Stands}
 use Rattle.sok_search.proofs.StatesByIndex.{noted-at}
 
 -- a known state at most so deep, of a position
@@ -98,31 +100,54 @@ module _ (b : BoardView) (accepted : IsAccepted b) (limit : ℕ) (p : Progress) 
       same = Same-trans b.rows (key_position b at.key) x a.position at.same (Same-step b.rows d x a steps is);
     })
 
-    -- a push from an expanded state was met
-    pushed : ((push : Push) → IsLegal b at.key push → IsMet b p at.key at.deep push) → (d : Dir) (a : After) → step b.rows d x ≡ Some a → a.pushed ≡ true
+    -- where each legal push was met, a push leads to what is known
+    pushed : (chosen : List Push) → ((push : Push) → IsLegal b at.key push → Contains chosen push)
+        → ((push : Push) → Contains chosen push → IsMet b p at.key at.deep push) → (d : Dir) (a : After) → step b.rows d x ≡ Some a → a.pushed ≡ true
         → IsKnown b claim p (depth + 1) a.position
-    pushed met d a steps is =
+    pushed chosen all met d a steps is =
         let (from, leads) = leads-pushed b accepted at.key placed x d a at.same steps is in
         let push : Push = record { from = from; dir = d } in
         let near = at.near in
-        known-met at.key at.deep (depth + 1) push a.position leads (omega (arith, near)) (met push (record { after = a.position; leads = leads }))
+        known-met at.key at.deep (depth + 1) push a.position leads (omega (arith, near))
+        (met push (all push (record { after = a.position; leads = leads })))
+
+    -- where enough of them were met, what solves can be rearranged to begin with one that was
+    rearranged : (chosen : List Push) → MayBegin b at.key chosen → ((push : Push) → Contains chosen push → IsMet b p at.key at.deep push)
+        → Rearranges b.rows (IsKnown b claim p) depth x
+    rearranged chosen may met w solves =
+        let (v, solved, as_many) = solves-Same b.rows (key_position b at.key) x at.same w solves in
+        let first = may v solved in
+        let near = at.near in
+        let fewer = first.fewer in
+        record {
+          position = first.after;
+          known = known-met at.key at.deep (depth + 1) first.push first.after first.leads (omega (arith, near)) (met first.push first.among);
+          rest = first.rest;
+          solves = first.solves;
+          fewer = omega (arith, as_many, fewer);
+        }
+
+    expanded-known : (IsSolved b at.key → ⊥) → IsFollowedUp b p at.key at.deep → LeadsOn b.rows (IsKnown b claim p) depth x ⊎ Rearranges b.rows (IsKnown b claim p) depth x
+    expanded-known unsolved (chosen, inl all, met) = inl (record {
+      unsolved = λ solved. unsolved (solved-Same b.rows (key_position b at.key) x at.same solved);
+      walked = walked;
+      pushed = pushed chosen all met;
+    })
+    expanded-known unsolved (chosen, inr (part, may), met) = inr (rearranged chosen may met)
 
     -- by the standing of the state
     standing-known : (s : Standing) → Stands b p at.index at.key at.deep s
         → IsDone b claim (losses_of p.frame.losses) at.key.least at.key.boxes at.deep s
-        → AllAgree b.rows claim depth x ⊎ LeadsOn b.rows (IsKnown b claim p) depth x
+        → AllAgree b.rows claim depth x ⊎ (LeadsOn b.rows (IsKnown b claim p) depth x ⊎ Rearranges b.rows (IsKnown b claim p) depth x)
     standing-known (Open bound) stands enough = inl (agree-open b accepted claim at.key depth at.deep x placed at.same at.near enough)
-    standing-known (Expanded bound) (prices, unsolved, met) expanded = inr (record {
-      unsolved = λ solved. unsolved (solved-Same b.rows (key_position b at.key) x at.same solved);
-      walked = walked;
-      pushed = pushed met;
-    })
+    standing-known (Expanded bound) (prices, unsolved, followed) expanded = inr (expanded-known unsolved followed)
     standing-known Dead stands dead = inl (agree-dead b accepted claim at.key depth at.deep x placed at.same at.near dead)
     standing-known (Lost place) stands lost = inl (λ w solves. absurd
         (NeverFrom-Same b.rows (key_position b at.key) x at.same
         (lost-never b at.key.least at.key.boxes (losses_of p.frame.losses) place lost accepted placed) w solves))
 
-  known : (depth : ℕ) (x : Position) → IsKnown b claim p depth x → AllAgree b.rows claim depth x ⊎ LeadsOn b.rows (IsKnown b claim p) depth x
+  known : (depth : ℕ) (x : Position) → IsKnown b claim p depth x
+      → AllAgree b.rows claim depth x ⊎ (LeadsOn b.rows (IsKnown b claim p) depth x ⊎ Rearranges b.rows (IsKnown b claim p) depth x)
   known depth x (inr agree) = inl agree
   known depth x (inl at) =
       let (note, note_is, noted) = noted-at b limit p search at.index at.key at.deep at.there at.depth_is in
@@ -133,7 +158,7 @@ module _ (b : BoardView) (accepted : IsAccepted b) (limit : ℕ) (p : Progress) 
   pub shows : IsTrueOf b.rows claim
   shows =
       let begun = search.begun in
-      IsTrueOf-known b.rows claim (IsKnown b claim p) known (inl (record {
+      let known_start : IsKnown b claim p 0 (start b.rows) = inl (record {
         index = 0;
         key = begun.key;
         there = begun.there;
@@ -141,4 +166,6 @@ module _ (b : BoardView) (accepted : IsAccepted b) (limit : ℕ) (p : Progress) 
         depth_is = begun.depth_is;
         near = omega arith;
         same = Same-sym b.rows (start b.rows) (key_position b begun.key) (IsStanding-start b.rows accepted.proper) begun.is.same;
-      }))
+      }) in
+      IsTrueOf-agrees b.rows claim (λ w solves.
+      all-agree b.rows (Agrees claim) (Agrees-more claim) (IsKnown b claim p) known w 0 (start b.rows) known_start solves)

@@ -10,13 +10,11 @@ use Rattle.std.proofs.lemmas.Option.{same_Some, slice_get_within, get_or_from_sl
 use Rattle.sok_board.specs.Area.{BoardView}
 use Rattle.sok_board.proofs.Lists.{Contains-cons, Contains-cons_cases}
 use Rattle.sok_state.specs.declared.key.Key.{Key}
-use Rattle.sok_state.specs.declared.push.Push.{Push}
-use Rattle.sok_state.specs.Pushes.{IsLegal}
 use Rattle.sok_state.specs.Tables.{IsAt}
 use Rattle.sok_search.specs.declared.note.Note.{Note}
 use Rattle.sok_search.specs.declared.note.Standing.{Standing}
 use Rattle.sok_search.specs.declared.note.Standing.TheVariants.{Open, Expanded, Dead, Lost}
-use Rattle.sok_search.specs.Searches.{Progress, IsBeaten, IsCome, IsMet, IsNoted, IsReached, IsSearch, IsSolved, IsState, Stands}
+use Rattle.sok_search.specs.Searches.{Progress, IsBeaten, IsCome, IsFollowedUp, IsNoted, IsReached, IsSearch, IsSolved, IsState, Stands}
 use Rattle.sok_search.specs.Steps.{IsAdded, IsChanged, Queues, done, holding, work}
 use Rattle.sok_search.proofs.Changing.{key_count, set_cases, set_same}
 use Rattle.sok_search.proofs.Invariant.{Grows-refl, best-along, come-along, keeps, later-same}
@@ -76,7 +74,7 @@ noted-done b limit p index key depth was note notes best search state origin sta
 -- it is expanded
 pub keeps-expanded : (b : BoardView) (limit : ℕ) (p : Progress) (index : ℕ) (key : Key) (depth bound : ℕ) (was : Note) → IsSearch b limit (holding index p)
     → IsState p index key depth was → was.standing ≡ Open bound → (IsSolved b key → ⊥)
-    → ((push : Push) → IsLegal b key push → IsMet b p key depth push)
+    → IsFollowedUp b p key depth
     → IsSearch b limit (done p (set p.notes index (record { origin = was.origin; standing = Expanded bound })) p.best)
 keeps-expanded b limit p index key depth bound was search state is_open unsolved met =
     let note : Note = record { origin = was.origin; standing = Expanded bound } in

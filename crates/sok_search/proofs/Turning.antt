@@ -7,14 +7,13 @@ use Rattle.std.proofs.lemmas.Option.{same_Some}
 use Rattle.sok_board.specs.Area.{BoardView}
 use Rattle.sok_board.proofs.Lists.{Contains-cons, Contains-cons_cases}
 use Rattle.sok_state.specs.declared.key.Key.{Key}
-use Rattle.sok_state.specs.Pushes.{IsLegal}
 use Rattle.sok_search.specs.declared.aim.Aim.{Aim}
 use Rattle.sok_search.specs.declared.note.Note.{Note}
 use Rattle.sok_search.specs.declared.note.Standing.{Standing}
 use Rattle.sok_search.specs.declared.note.Standing.TheVariants.{Open, Expanded, Dead, Lost}
-use Rattle.sok_search.specs.Searches.{Progress, IsBeaten, IsSearch, IsSolved, IsState, Stands}
+use Rattle.sok_search.specs.Searches.{Progress, AreEnough, IsBeaten, IsSearch, IsSolved, IsState, Stands}
 use Rattle.sok_search.specs.Steps.{HasOneMore, Queues, done, holding, work}
-use Rattle.sok_search.specs.Views.{HasFollowed, IsCutOff, IsTurned}
+use Rattle.sok_search.specs.Views.{HasExpanded, IsCutOff, IsTurned}
 use Rattle.sok_search.proofs.TakenIndices.{keeps-dropped, keeps-expanded, keeps-solved}
 use Rattle.sok_search.proofs.Invariant.{keeps-queue}
 use Rattle.sok_search.proofs.StatesByIndex.{known-at}
@@ -150,13 +149,16 @@ go-solved b limit index bound depth key p note search state is solved far =
     }
 
 pub go-on : (b : BoardView) (limit index bound depth : ℕ) (key : Key) (p q : Progress) (note : Note) → IsState p index key depth note
-    → note.standing ≡ Open bound → (IsSolved b key → ⊥) → HasFollowed b limit p index key depth (IsLegal b key) q → (r : Progress)
+    → note.standing ≡ Open bound → (IsSolved b key → ⊥) → HasExpanded b limit p index key depth q → (r : Progress)
     → r ≡ done q (set q.notes index (record { origin = note.origin; standing = Expanded bound })) q.best
     → IsTurned b limit (holding index p) r
-go-on b limit index bound depth key p q note state is unsolved followed r same =
+go-on b limit index bound depth key p q note state is unsolved expanded r same =
+    let followed = expanded.followed in
+    let enough : AreEnough b q.frame.aim.whole key expanded.chosen = subst (λ aim. AreEnough b aim.whole key expanded.chosen) (sym followed.aim) expanded.enough in
     let stays = followed.stay index key depth note (omega arith) state in
     let s = done q (set q.notes index (record { origin = note.origin; standing = Expanded bound })) q.best in
-    let kept : IsSearch b limit s = keeps-expanded b limit q index key depth bound note followed.search stays is unsolved followed.met in
+    let kept : IsSearch b limit s = keeps-expanded b limit q index key depth bound note followed.search stays is unsolved
+    (expanded.chosen, enough, followed.met) in
     let no_more = followed.no_more in
     let less : work limit q < work limit (holding index q) = work-held limit index q in
     let now : work limit s < work limit (holding index p) = below (work limit q) (work limit (holding index q)) (work limit (holding index p)) less no_more in

@@ -11,6 +11,7 @@ use Rattle.sok_state.specs.declared.push.Push.{Push}
 use Rattle.sok_state.specs.declared.scene.Scene.{Scene}
 use Rattle.sok_state.specs.Keys.{IsKey}
 use Rattle.sok_state.specs.Pushes.{IsLegal, IsOpened}
+use Rattle.sok_corral.specs.Fencing.{IsFenceScratch}
 use Rattle.sok_search.specs.declared.expanding.Scratch.{Scratch}
 
 -- a matching for a board; if `matched`, it is that of these boxes
@@ -25,11 +26,12 @@ pub record IsLast (b : BoardView) (scene : Scene) (pushes : List Push) (last : K
   pub opened : IsOpened b last scene
   pub legal : All (IsLegal b last) pushes
 
--- buffers for a board: a matching, and boxes that are laid out; those of the last expanded state, if there was one
+-- buffers for a board: a matching, and boxes that are laid out, those of the last expanded state if there was one; and room to look for corrals
 pub record IsReady (b : BoardView) (scratch : Scratch) : Type 0 where
   pub serves : Serves b scratch.push_scratch.matching
   pub boxes : List ℕ
   pub laid : IsLaidOut b boxes scratch.push_scratch.scene.layout
+  pub fences : IsFenceScratch b scratch.fences
   pub of_last : IfSome scratch.last (IsLast b scratch.push_scratch.scene scratch.pushes.items)
 
 -- boxes before and after one of them moves to a square without a box

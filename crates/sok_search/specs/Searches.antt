@@ -1,5 +1,5 @@
 -- The invariant of the search: which states are known, how each was reached, and why its standing is right.
-use Rattle.std.specs.Prelude.{ℕ, ◌≡◌, ◌<◌, ◌≤◌, ◌+◌, ◌⊎◌, false, List, Option, Some, None, IfSome, IsSomeAnd, Contains, length, slice_get, ⊤}
+use Rattle.std.specs.Prelude.{ℕ, ◌≡◌, ◌<◌, ◌≤◌, ◌+◌, ◌⊎◌, false, Bool, List, Option, Some, None, IfSome, IsSomeAnd, Contains, length, slice_get, ⊤}
 use Rattle.std.specs.Map.{values_of}
 use Rattle.sok_rules.specs.declared.cell.Dir.{Dir}
 use Rattle.sok_rules.specs.Play.{Position, AllOnGoals, NeverFrom, SolvesFrom, pushes, start}
@@ -9,7 +9,7 @@ use Rattle.sok_bar.specs.declared.rest.Rest.{Rest}
 use Rattle.sok_bar.specs.Bars.{Barring, Bars, IsOfBoxes}
 use Rattle.sok_state.specs.declared.key.Key.{Key}
 use Rattle.sok_state.specs.declared.push.Push.{Push}
-use Rattle.sok_state.specs.Keys.{IsKey, IsKeyOf}
+use Rattle.sok_state.specs.Keys.{IsKey, IsKeyOf, key_position}
 use Rattle.sok_state.specs.Pushes.{IsLegal, LeadsTo}
 use Rattle.sok_state.specs.Tables.{Entries, HasDistinctKeys, IsAt}
 use Rattle.sok_closed.specs.Lookup.{IsFound}
@@ -104,11 +104,34 @@ pub record IsLeftOut (b : BoardView) (aim : Aim) (key : Key) (depth : ℕ) (push
 abbrev pub IsMet : BoardView → Progress → Key → ℕ → Push → Type 0
 IsMet b p key depth push = IsFound b p.table key depth push ⊎ IsLeftOut b p.frame.aim key depth push
 
+-- a walk and a push that is among these, and then letters that solve the level, with no more pushes in all than these letters from the state
+pub record BeginsAmong (b : BoardView) (key : Key) (chosen : List Push) (w : List Dir) : Type 0 where
+  pub push : Push
+  pub among : Contains chosen push
+  pub after : Position
+  pub leads : LeadsTo b key push after
+  pub rest : List Dir
+  pub solves : SolvesFrom b.rows after rest
+  pub fewer : 1 + pushes b.rows after rest ≤ pushes b.rows (key_position b key) w
+
+-- each solution from a state can be rearranged, with no more pushes, to begin with one of these pushes
+abbrev pub MayBegin : BoardView → Key → List Push → Type 0
+MayBegin b key chosen = (w : List Dir) → SolvesFrom b.rows (key_position b key) w → BeginsAmong b key chosen w
+
+-- these pushes are all legal ones, or, if not every state is kept, enough of them
+abbrev pub AreEnough : BoardView → Bool → Key → List Push → Type 0
+AreEnough b whole key chosen = ((push : Push) → IsLegal b key push → Contains chosen push) ⊎ ((whole ≡ false) × MayBegin b key chosen)
+
+-- enough pushes are met
+abbrev pub IsFollowedUp : BoardView → Progress → Key → ℕ → Type 0
+IsFollowedUp b p key depth =
+    (chosen : List Push) × AreEnough b p.frame.aim.whole key chosen × ((push : Push) → Contains chosen push → IsMet b p key depth push)
+
 -- why the standing of a state is right
 abbrev pub Stands : BoardView → Progress → ℕ → Key → ℕ → Standing → Type 0
 Stands b p i key depth (Open bound) = HasBound b key.boxes bound × (Contains p.queue i ⊎ IsBeaten p.best (depth + bound))
 Stands b p i key depth (Expanded bound) =
-    HasBound b key.boxes bound × (IsSolved b key → ⊥) × ((push : Push) → IsLegal b key push → IsMet b p key depth push)
+    HasBound b key.boxes bound × (IsSolved b key → ⊥) × IsFollowedUp b p key depth
 Stands b p i key depth Dead = IsDead b key.boxes
 Stands b p i key depth (Lost place) = IsLostBy b key.least key.boxes (losses_of p.frame.losses) place
 

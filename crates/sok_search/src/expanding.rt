@@ -7,9 +7,11 @@ ghost use Rattle.sok_region.specs.Layouts.{IsLaidOut};
 ghost use Rattle.sok_state.specs.Keys.{IsKey};
 ghost use Rattle.sok_state.specs.declared.push.Push.{Push};
 ghost use Rattle.sok_state.specs.Pushes.{IsLegal, IsOpened};
+ghost use Rattle.sok_corral.specs.Fencing.{IsFenceScratch};
 ghost use Rattle.sok_search.specs.PushScratches.{IsReady, IsPushScratch};
+ghost use Rattle.sok_search.specs.Searches.{AreEnough};
 ghost use Rattle.sok_search.specs.Steps.{holding};
-ghost use Rattle.sok_search.specs.Views.{progress_of, CutsOff, HasFollowed, HoldsState};
+ghost use Rattle.sok_search.specs.Views.{progress_of, CutsOff, HasExpanded, HasFollowed, HoldsState};
 
 use crate::note::Origin;
 use crate::push_scratch::PushScratch;
@@ -18,6 +20,7 @@ use crate::search::Search;
 use crate::stop::Stop;
 use sok_board::area::Sq;
 use sok_board::board::Board;
+use sok_corral::fencing::FenceScratch;
 use sok_distance::setting::Setting;
 use sok_price::matching::Matching;
 use sok_rules::fault::Memory;
@@ -35,6 +38,7 @@ pub(crate) struct Scratch {
     index: u32,
     pushes: Vec<Push>,
     pub(crate) push_scratch: PushScratch,
+    pub(crate) fences: FenceScratch,
     pub(crate) squares: Vec<Sq>,
 }
 
@@ -53,6 +57,7 @@ impl Scratch {
             index: 0,
             pushes: Vec::new(alloc),
             push_scratch,
+            fences: FenceScratch::new(alloc, setting.board),
             squares: Vec::new(alloc),
         })
     }
@@ -73,6 +78,7 @@ impl Scratch {
         requires ready { IsReady board.now self.old }
         ensures serves { OnOk result (Serves board.now self.new.push_scratch.matching) }
         ensures matched { self.new.push_scratch.matched ≡ self.old.push_scratch.matched }
+        ensures fences { self.new.fences ≡ self.old.fences }
         ensures last { OnOk result (self.new.last ≡ Some key.now) }
         ensures opened { OnOk result (IsOpened board.now key.now self.new.push_scratch.scene) }
         ensures legal { OnOk result (All (IsLegal board.now key.now) self.new.pushes.items) }
@@ -88,6 +94,31 @@ impl Scratch {
         Ok(())
     }
 
+    /// Keeps enough of the legal pushes of a state that is laid out. If not every state is kept, these
+    /// are the pushes of a corral's boxes, if a corral is found that has fewer.
+    fn narrow(&mut self, setting: &Setting<'_>, whole: bool, key: &Key) -> Result<(), Memory>
+        requires accepted { IsAccepted setting.now.board.now }
+        requires state { IsKey setting.now.board.now key.now }
+        requires opened { IsOpened setting.now.board.now key.now self.old.push_scratch.scene }
+        requires fences { IsFenceScratch setting.now.board.now self.old.fences }
+        requires legal { All (IsLegal setting.now.board.now key.now) self.old.pushes.items }
+        requires whole { (push : Push)
+            → IsLegal setting.now.board.now key.now push → Contains self.old.pushes.items push }
+        ensures push_scratch { self.new.push_scratch ≡ self.old.push_scratch }
+        ensures last { self.new.last ≡ self.old.last }
+        ensures fences { OnOk result (IsFenceScratch setting.now.board.now self.new.fences) }
+        ensures legal { OnOk result
+            (All (IsLegal setting.now.board.now key.now) self.new.pushes.items) }
+        ensures enough { OnOk result
+            (AreEnough setting.now.board.now whole key.now self.new.pushes.items) }
+    {
+        if whole {
+            return Ok(());
+        }
+        self.fences
+            .narrow(setting, key, &self.push_scratch.scene, &mut self.pushes)
+    }
+
     /// Makes the push that leads from the last expanded state to `key`. Returns false, and does nothing, if
     /// `key` does not come from there.
     fn follow_last(
@@ -101,6 +132,7 @@ impl Scratch {
         requires ready { IsReady board.now self.old }
         ensures matching { self.new.push_scratch.matching ≡ self.old.push_scratch.matching }
         ensures matched { self.new.push_scratch.matched ≡ self.old.push_scratch.matched }
+        ensures fences { self.new.fences ≡ self.old.fences }
         ensures laid { OnOk result
             ((boxes : List ℕ) × IsLaidOut board.now boxes self.new.push_scratch.scene.layout) }
         ensures followed { IfOk result
@@ -177,7 +209,7 @@ fn follow(
     Ok(())
 }
 
-/// Expands a state: generates its successors by all legal pushes.
+/// Expands a state: generates its successors by enough of its legal pushes.
 pub(crate) fn expand(
     alloc: Global,
     setting: &Setting<'_>,
@@ -192,14 +224,14 @@ pub(crate) fn expand(
     requires state { HoldsState setting.now.board.now limit index key.now depth search.old }
     requires ready { IsReady setting.now.board.now scratch.old }
     ensures ready { OnOk result (IsReady setting.now.board.now scratch.new) }
-    ensures followed { OnOk result (HasFollowed setting.now.board.now limit
-        (progress_of search.old) index key.now depth (IsLegal setting.now.board.now key.now)
-        (progress_of search.new)) }
+    ensures expanded { OnOk result (HasExpanded setting.now.board.now limit
+        (progress_of search.old) index key.now depth (progress_of search.new)) }
     ensures cut { CutsOff setting.now.board.now limit search.old
         (holding index (progress_of search.new)) result }
 {
     scratch.push_scratch.matched = false;
     scratch.open(alloc, setting.board, index as u32, key, origin)?;
+    scratch.narrow(setting, search.aim.whole, key)?;
     follow(
         alloc,
         setting,

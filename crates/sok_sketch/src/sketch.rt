@@ -120,6 +120,18 @@ pub const BOX_IN_THE_OPEN: &str = "\
 #####
 ";
 
+/// A box in a doorway shuts the player out from the room behind it, and another one stands in the open.
+/// Squares 0 to 4 are the first row, 5 to 10 the second, 11 to 15 the third, and 16 to 18 the last;
+/// the boxes are 8 and 12.
+pub const BOX_IN_THE_DOORWAY: &str = "\
+########
+#   #  #
+#@  $ .#
+# $ #  #
+#  .####
+########
+";
+
 /// A box on a goal beside one off a goal.
 pub const ONE_OF_TWO_ON_A_GOAL: &str = "\
 #######

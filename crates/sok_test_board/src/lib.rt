@@ -7,6 +7,7 @@
 //! | `bounds` | dual prices as a reason, and spent pushes as one |
 //! | `crowds` | crowds as a reason |
 //! | `distances` | how far a box is from each goal, and where it is stuck |
+//! | `fences` | which pushes of a state are kept, with a fence and without one |
 //! | `jams` | frozen boxes as a reason, and which are found |
 //! | `matching` | a matching that is kept from one set of boxes to the next |
 //! | `pairs` | two or three boxes that can't be solved, even alone |
@@ -28,6 +29,8 @@ mod bounds;
 mod crowds;
 #[cfg(test)]
 mod distances;
+#[cfg(test)]
+mod fences;
 #[cfg(test)]
 mod jams;
 #[cfg(test)]

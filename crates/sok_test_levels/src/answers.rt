@@ -32,12 +32,23 @@ pub(crate) fn answered(alloc: Global, board: &str, limit: u32) -> Result<Reply, 
     Ok(Reply { status, out, cert })
 }
 
-/// Returns whether the answer is the same without a certificate.
-fn is_found(alloc: Global, board: &str, limit: u32, reply: &Reply) -> Result<bool, Fail> {
+/// Returns whether the answer is the same without a certificate, except that other letters may solve
+/// the level with this many pushes.
+fn is_found(
+    alloc: Global,
+    board: &str,
+    limit: u32,
+    reply: &Reply,
+    pushes: Option<u32>,
+) -> Result<bool, Fail> {
     let boards = second(alloc, board)?;
     let mut out = Vec::new(alloc);
     let status = find_bytes(alloc, &mut boards.as_bytes(), 2, limit, false, &mut out)?;
-    Ok(out.as_slice() == reply.out.as_slice() && status == reply.status)
+    let is_told = match pushes {
+        Some(pushes) => tells(alloc, board, &out, pushes)?,
+        None => out.as_slice() == reply.out.as_slice(),
+    };
+    Ok(is_told && status == reply.status)
 }
 
 /// Returns how many entries a certificate has. The lines inside a pattern are not counted.
@@ -82,7 +93,7 @@ pub(crate) fn is_solved(alloc: Global, board: &str, limit: u32, pushes: u32) -> 
     Ok(
         reply.status == 0
             && tells(alloc, board, &reply.out, pushes)?
-            && is_shown(alloc, board, limit, &reply, &accepted)?,
+            && is_shown(alloc, board, limit, &reply, Some(pushes), &accepted)?,
     )
 }
 
@@ -92,20 +103,22 @@ pub(crate) fn is_unsolvable(alloc: Global, board: &str, limit: u32) -> Result<bo
     Ok(
         reply.status == 0
             && reply.out.as_slice() == b"unsolvable\n".as_slice()
-            && is_shown(alloc, board, limit, &reply, "accepted unsolvable\n")?,
+            && is_shown(alloc, board, limit, &reply, None, "accepted unsolvable\n")?,
     )
 }
 
-/// Returns whether an answer is the same without a certificate, and its certificate is accepted.
+/// Returns whether an answer is the same without a certificate, except for the letters that solve the
+/// level with this many pushes, and its certificate is accepted.
 fn is_shown(
     alloc: Global,
     board: &str,
     limit: u32,
     reply: &Reply,
+    pushes: Option<u32>,
     accepted: &str,
 ) -> Result<bool, Fail> {
     Ok(
-        is_found(alloc, board, limit, reply)?
+        is_found(alloc, board, limit, reply, pushes)?
             && is_accepted(alloc, board, limit, reply.cert.as_slice(), accepted)?,
     )
 }
@@ -225,7 +238,7 @@ fn is_answered(
         reply.status == status
             && reply.out.as_slice() == text.as_bytes()
             && reply.cert.is_empty() == (status == 4)
-            && is_found(alloc, board, limit, &reply)?,
+            && is_found(alloc, board, limit, &reply, None)?,
     )
 }
 

@@ -149,6 +149,7 @@ fn fewest_pushes(rt: HostRuntime) -> Result<(), Fail> {
         (sketch::DECORATED, 10, Some(1)),
         (sketch::TWO_BOXES_AND_THREE_GOALS, 1_000, Some(2)),
         (sketch::NO_BOX_INSIDE, 1, Some(0)),
+        (sketch::BOX_IN_THE_DOORWAY, 1_000, Some(4)),
         (ZERKALO, 1_000_000, Some(20)),
         (LOWERED, 1_000, Some(7)),
     ] {
@@ -426,12 +427,13 @@ fn three_lost_boxes_are_a_pattern(rt: HostRuntime) -> Result<(), Fail> {
     Ok(())
 }
 
-/// Without a certificate, states in which a box reaches no goal are not kept. So a limit suffices
-/// that is met if they are kept.
+/// Without a certificate, states from which a box reaches no goal are not kept, and of some states only
+/// the pushes of a corral are followed. So a limit suffices that is exceeded if they are kept.
 #[test]
 fn fewer_states(rt: HostRuntime) -> Result<(), Fail> {
     for &(board, limit, pushes) in &[
         (sketch::CORRIDOR_OF_SIX_PUSHES, 7, 6),
+        (sketch::BOX_IN_THE_DOORWAY, 8, 4),
         (ZERKALO, 300, 20),
         (LOWERED, 30, 7),
     ] {

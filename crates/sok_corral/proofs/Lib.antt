@@ -1,0 +1,7 @@
+pub mod Corrals
+pub mod Fences
+pub mod Jamming
+pub mod Keeping
+pub mod Laying
+pub mod Rearranging
+pub mod Shutting

@@ -1,0 +1,349 @@
+//! Boxes that may fence off a corral. Nothing here is relied on: `testing` decides.
+
+ghost use Rattle.std.specs.Prelude.{◌<◌, IfSome, OnOk, All, Contains, length};
+ghost use Rattle.sok_board.specs.Area.{IsAccepted};
+ghost use Rattle.sok_region.specs.Layouts.{IsLaidOut};
+ghost use Rattle.sok_state.specs.declared.key.Key.{Key};
+ghost use Rattle.sok_state.specs.Keys.{IsKey};
+ghost use Rattle.sok_corral.specs.Fencing.{IsFenceScratch, IsLone};
+ghost use Rattle.sok_corral.specs.Guessing.{NamesSquares};
+
+use crate::fencing::FenceScratch;
+use crate::lone::Lone;
+use crate::sets::{has, put};
+use crate::testing::{is_astray, is_jammed};
+use sok_board::area::Sq;
+use sok_board::board::Board;
+use sok_distance::setting::Setting;
+use sok_field::drawing;
+use sok_field::field::Field;
+use sok_region::layout::Layout;
+use sok_rules::cell::Dir;
+use sok_rules::fault::Memory;
+use sok_state::key::Key;
+use sok_state::push::Push;
+use sok_state::scene::Scene;
+
+/// The maximum number of boxes of a fence. Larger ones are rare, and looking for them takes long.
+const FENCE_BOXES: usize = 8;
+
+const DIRS: [Dir; 4] = [Dir::Left, Dir::Up, Dir::Right, Dir::Down];
+
+/// What a look at the pushes of some boxes finds.
+#[derive(Clone, Copy)]
+enum Finding {
+    /// Each of their pushes is shut.
+    Shut,
+    /// A push is not. It may be if boxes shut the player out from the first square, or else from the
+    /// second one.
+    Ajar(Sq, Sq),
+}
+
+/// What happens to a fence when boxes are added.
+#[derive(Clone, Copy)]
+enum Growth {
+    /// It has more boxes.
+    Grown,
+    /// It has them all already.
+    Same,
+    /// One of them can be in no fence.
+    Loose,
+}
+
+/// Looks for a fence whose boxes have fewer pushes than the state. Returns whether one may be found,
+/// and leaves its boxes in `scratch.best`.
+pub(crate) fn guess(
+    scratch: &mut FenceScratch,
+    setting: &Setting<'_>,
+    key: &Key,
+    scene: &Scene,
+    pushes: &[Push],
+) -> Result<bool, Memory>
+    requires accepted { IsAccepted setting.now.board.now }
+    requires state { IsKey setting.now.board.now key.now }
+    requires ready { IsFenceScratch setting.now.board.now scratch.old }
+    ensures { OnOk result (IsFenceScratch setting.now.board.now scratch.new) }
+{
+    let mut fewest = pushes.len();
+    scratch.parts.clear();
+    for from in key.boxes.list() {
+        let Some(start) = part_beside(setting.board, scene, &scratch.parts, *from) else {
+            continue;
+        };
+        if is_loose(setting, scene, *from) {
+            continue;
+        }
+        let found = guess_around(scratch, setting, key, scene, pushes, start, fewest)?;
+        if let Some(fewer) = found {
+            fewest = fewer;
+            scratch.best.clear();
+            scratch.best.extend_from_slice(&scratch.boxes)?;
+        }
+    }
+    Ok(fewest < pushes.len())
+}
+
+/// Returns a square beside a box that is free, that the player can't reach, and that is not in `parts`.
+fn part_beside(board: &Board, scene: &Scene, parts: &Field, square: Sq) -> Option<Sq>
+    requires accepted { IsAccepted board.now }
+    requires exists { square < length board.now.area }
+    ensures { IfSome result (λ start. start < length board.now.area) }
+{
+    for dir in DIRS {
+        if let Some(start) = board.neighbour(square, dir)
+            && is_shut_off(board, scene, start)
+            && !has(board, parts, start)
+        {
+            return Some(start);
+        }
+    }
+    None
+}
+
+/// Returns whether a square is free and the player can't reach it.
+fn is_shut_off(board: &Board, scene: &Scene, square: Sq) -> bool
+    requires accepted { IsAccepted board.now }
+    requires exists { square < length board.now.area }
+{
+    !has(board, &scene.reached, square) && has(board, scene.layout.free(), square)
+}
+
+/// Returns whether the player can push a box to a square that he reaches. Such a box is in no fence,
+/// unless it is jammed there.
+fn is_loose(setting: &Setting<'_>, scene: &Scene, square: Sq) -> bool
+    requires accepted { IsAccepted setting.now.board.now }
+    requires exists { square < length setting.now.board.now.area }
+{
+    let board = setting.board;
+    for dir in DIRS {
+        if let Some(man) = board.neighbour(square, dir.opposite())
+            && let Some(to) = board.neighbour(square, dir)
+            && has(board, &scene.reached, man)
+            && has(board, &scene.reached, to)
+            && !setting.distances.stuck(to)
+        {
+            return true;
+        }
+    }
+    false
+}
+
+/// Looks for a fence around the part of the area that has a square. Returns how many pushes its boxes
+/// have, if they are fewer than `fewest`.
+fn guess_around(
+    scratch: &mut FenceScratch,
+    setting: &Setting<'_>,
+    key: &Key,
+    scene: &Scene,
+    pushes: &[Push],
+    start: Sq,
+    fewest: usize,
+) -> Result<Option<usize>, Memory>
+    requires accepted { IsAccepted setting.now.board.now }
+    requires state { IsKey setting.now.board.now key.now }
+    requires ready { IsFenceScratch setting.now.board.now scratch.old }
+    requires exists { start < length setting.now.board.now.area }
+    ensures { OnOk result (IsFenceScratch setting.now.board.now scratch.new) }
+{
+    let boxes = key.boxes.list();
+    scratch.boxes.clear();
+    let parts = &mut scratch.parts;
+    let (part, list) = (&mut scratch.part, &mut scratch.boxes);
+    let mut growth = shut(setting, boxes, scene, start, part, parts, list)?;
+    'rounds: for _ in 0..FENCE_BOXES {
+        if !matches!(growth, Growth::Grown) || scratch.boxes.len() > FENCE_BOXES {
+            return Ok(None);
+        }
+        let count = count(&scratch.boxes, pushes);
+        if count >= fewest {
+            return Ok(None);
+        }
+        let (lone, layout) = (&mut scratch.lone, &mut scratch.layout);
+        lone.lay(setting.board, key, &scratch.boxes, layout)?;
+        match look(setting, scene, lone, layout, &lone.boxes) {
+            Finding::Shut => {
+                if !is_astray(setting.board, boxes, &scratch.lone.reached) {
+                    return Ok(None);
+                }
+                return Ok(Some(count));
+            }
+            Finding::Ajar(first, second) => {
+                let parts = &mut scratch.parts;
+                let (part, list) = (&mut scratch.part, &mut scratch.boxes);
+                growth = grow(setting, boxes, scene, first, second, part, parts, list)?;
+            }
+        }
+    }
+    Ok(None)
+}
+
+/// Returns how many pushes are those of some boxes.
+fn count(boxes: &[Sq], pushes: &[Push]) -> usize {
+    pushes
+        .iter()
+        .filter(|push| boxes.contains(&push.from))
+        .count()
+}
+
+/// Adds the boxes that shut the player out from a square, or else those of another one.
+fn grow(
+    setting: &Setting<'_>,
+    boxes: &[Sq],
+    scene: &Scene,
+    first: Sq,
+    second: Sq,
+    part: &mut Field,
+    parts: &mut Field,
+    list: &mut Vec<Sq>,
+) -> Result<Growth, Memory>
+    requires accepted { IsAccepted setting.now.board.now }
+    requires exist { All (λ n. n < length setting.now.board.now.area) boxes.now }
+    requires first { first < length setting.now.board.now.area }
+    requires second { second < length setting.now.board.now.area }
+{
+    let growth = shut(setting, boxes, scene, first, part, parts, list)?;
+    if second == first || !matches!(growth, Growth::Same) {
+        return Ok(growth);
+    }
+    shut(setting, boxes, scene, second, part, parts, list)
+}
+
+/// Adds the boxes that shut the player out from a square: the one there, or those beside the part of
+/// the area that has it. The squares of this part beside them are put into `parts`.
+fn shut(
+    setting: &Setting<'_>,
+    boxes: &[Sq],
+    scene: &Scene,
+    square: Sq,
+    part: &mut Field,
+    parts: &mut Field,
+    list: &mut Vec<Sq>,
+) -> Result<Growth, Memory>
+    requires accepted { IsAccepted setting.now.board.now }
+    requires exist { All (λ n. n < length setting.now.board.now.area) boxes.now }
+    requires exists { square < length setting.now.board.now.area }
+{
+    let free = scene.layout.free();
+    if !has(setting.board, free, square) {
+        return add(setting, scene, square, list);
+    }
+    drawing::flood_from(part, free, setting.board, square);
+    let mut growth = Growth::Same;
+    for one in boxes {
+        if mark(setting.board, part, *one, parts) && !matches!(growth, Growth::Loose) {
+            match add(setting, scene, *one, list)? {
+                Growth::Same => {}
+                added => growth = added,
+            }
+        }
+    }
+    Ok(growth)
+}
+
+/// Adds a box, unless it is there or in no fence.
+fn add(
+    setting: &Setting<'_>,
+    scene: &Scene,
+    square: Sq,
+    boxes: &mut Vec<Sq>,
+) -> Result<Growth, Memory>
+    requires accepted { IsAccepted setting.now.board.now }
+    requires exists { square < length setting.now.board.now.area }
+{
+    if boxes.contains(&square) {
+        return Ok(Growth::Same);
+    }
+    if is_loose(setting, scene, square) {
+        return Ok(Growth::Loose);
+    }
+    boxes.push(square)?;
+    Ok(Growth::Grown)
+}
+
+/// Puts the squares of a part that are beside a box into `parts`. Returns whether there are any.
+fn mark(board: &Board, part: &Field, square: Sq, parts: &mut Field) -> bool
+    requires accepted { IsAccepted board.now }
+    requires exists { square < length board.now.area }
+{
+    let mut is_beside = false;
+    for dir in DIRS {
+        if let Some(beside) = board.neighbour(square, dir)
+            && has(board, part, beside)
+        {
+            put(board, parts, beside);
+            is_beside = true;
+        }
+    }
+    is_beside
+}
+
+/// Looks at each push of some boxes that are laid out alone.
+fn look(
+    setting: &Setting<'_>,
+    scene: &Scene,
+    lone: &Lone,
+    layout: &mut Layout,
+    boxes: &[Sq],
+) -> Finding
+    requires accepted { IsAccepted setting.now.board.now }
+    requires exist { All (λ n. n < length setting.now.board.now.area) boxes.now }
+    requires there { All (Contains lone.now.boxes.items) boxes.now }
+    requires lone { (key : Key) × IsLone setting.now.board.now key lone.now }
+    requires laid { IsLaidOut setting.now.board.now lone.now.boxes.items layout.old }
+    ensures laid { IsLaidOut setting.now.board.now lone.now.boxes.items layout.new }
+    ensures squares { NamesSquares setting.now.board.now result }
+{
+    for from in boxes {
+        for dir in DIRS {
+            let finding = look_along(setting, scene, lone, layout, *from, dir);
+            if !matches!(finding, Finding::Shut) {
+                return finding;
+            }
+        }
+    }
+    Finding::Shut
+}
+
+/// Looks at the push of a box in one direction.
+fn look_along(
+    setting: &Setting<'_>,
+    scene: &Scene,
+    lone: &Lone,
+    layout: &mut Layout,
+    from: Sq,
+    dir: Dir,
+) -> Finding
+    requires accepted { IsAccepted setting.now.board.now }
+    requires exists { from < length setting.now.board.now.area }
+    requires there { Contains lone.now.boxes.items from }
+    requires lone { (key : Key) × IsLone setting.now.board.now key lone.now }
+    requires laid { IsLaidOut setting.now.board.now lone.now.boxes.items layout.old }
+    ensures laid { IsLaidOut setting.now.board.now lone.now.boxes.items layout.new }
+    ensures squares { NamesSquares setting.now.board.now result }
+{
+    let board = setting.board;
+    let Some(man) = board.neighbour(from, dir.opposite()) else {
+        return Finding::Shut;
+    };
+    let Some(to) = board.neighbour(from, dir) else {
+        return Finding::Shut;
+    };
+    if setting.distances.stuck(to)
+        || !has(board, &lone.reached, man)
+        || has(board, layout.boxed(), to)
+    {
+        return Finding::Shut;
+    }
+    let comes = has(board, &scene.reached, man);
+    let leaves = has(board, &lone.reached, to);
+    if !leaves && (comes || has(board, scene.layout.boxed(), to)) {
+        return Finding::Shut;
+    }
+    if is_jammed(setting, lone, layout, from, to) {
+        return Finding::Shut;
+    }
+    if !leaves || has(board, &scene.reached, to) {
+        return Finding::Ajar(man, man);
+    }
+    Finding::Ajar(to, if comes { to } else { man })
+}
