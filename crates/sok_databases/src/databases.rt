@@ -6,10 +6,11 @@ ghost use Rattle.sok_engine.specs.declared.fault.ToolFault.TheVariants as tool;
 ghost use Rattle.sok_databases.specs.Known.{KnownDatabases, MayOpen, unknown_databases};
 
 use crate::book_file::BookFile;
-use crate::opening::{Unopened, open};
+use crate::opening::{Unopened, has_levels, open};
 use sok_engine::fault::ToolFault;
 use sok_files::notes::OpenedFile;
 use sok_files::watched::Watched;
+use sok_sql::reading::count;
 use sqlite::{Connection, FileStore};
 
 /// How a database is opened.
@@ -93,17 +94,30 @@ impl Databases for Watched<'_, HostRuntime> {
     }
 }
 
-/// Opens a database, and notes its file if it is to be changed.
+/// Opens a database. If it is to be changed, notes its file, and how many levels are in it.
 fn noted(
     watched: &Watched<'_, HostRuntime>,
     path: &str,
     access: Access,
 ) -> Result<Connection<FileStore<BookFile>>, Unopened> {
-    let connection = open(watched.inner(), path, access)?;
+    let mut connection = open(watched.inner(), path, access)?;
     if access != Access::Read {
+        let levels = levels_in(&mut connection)?;
+        let file = OpenedFile::at(watched.inner(), path)?;
         watched
             .notes()
-            .set_database(OpenedFile::at(watched.inner(), path)?);
+            .set_database(file, levels, access == Access::Make);
     }
     Ok(connection)
+}
+
+/// Returns how many levels are in a database. An empty one has none.
+fn levels_in(connection: &mut Connection<FileStore<BookFile>>) -> Result<u32, Unopened> {
+    if !has_levels(connection) {
+        return Ok(0);
+    }
+    match count(connection) {
+        Ok(levels) => Ok(levels),
+        Err(error) => Err(Unopened::Refused(error)),
+    }
 }

@@ -188,13 +188,8 @@ fn open_there(
     access: Access,
 ) -> Result<Connection<FileStore<BookFile>>, Unopened> {
     let copied = copy(rt, path)?;
-    let schema = copied.schema();
-    let has_levels = schema
-        .tables
-        .as_slice()
-        .iter()
-        .any(|table| table.name.as_slice() == b"level".as_slice());
-    if !has_levels && (access != Access::Make || !schema.tables.as_slice().is_empty()) {
+    let is_empty = copied.schema().tables.as_slice().is_empty();
+    if !has_levels(&copied) && (access != Access::Make || !is_empty) {
         return Err(Unopened::Unfit(Unfit::NoBook));
     }
     if access == Access::Read {
@@ -202,6 +197,16 @@ fn open_there(
     }
     drop(copied);
     in_turn(rt, || connect(rt, path, access))
+}
+
+/// Returns whether a database has a table of levels.
+pub(crate) fn has_levels(connection: &Connection<FileStore<BookFile>>) -> bool {
+    connection
+        .schema()
+        .tables
+        .as_slice()
+        .iter()
+        .any(|table| table.name.as_slice() == b"level".as_slice())
 }
 
 /// Returns how many pages the log of a database may have before it is copied into the database
@@ -221,10 +226,10 @@ fn connect(
     path: &str,
     access: Access,
 ) -> Result<Connection<FileStore<BookFile>>, Unopened> {
-    let Files { log, db } = sqlite_std_file::open(rt, path, Unknown)?;
     let Ok(state) = RandomState::new(rt) else {
         return Err(Unopened::Unfit(Unfit::NoSeed));
     };
+    let Files { log, db } = sqlite_std_file::open(rt, path, Unknown)?;
     let files = Files {
         log: BookFile::Machine(log),
         db: BookFile::Machine(db),

@@ -7,9 +7,11 @@
 //! | `ending` | the exit status of a run, and what it writes to the error stream |
 //! | `file` | opening and making the files that a command names |
 //! | `folder` | files by their paths |
+//! | `foreign` | signs that no level can be read from a text (private) |
 //! | `machine` | the files of the machine (private) |
 //! | `notes` | what is reported beside the answer |
 //! | `own` | the file that a run has open beside its certificates |
+//! | `summary` | the line that sums up an answer (private) |
 //! | `watched` | files and streams whose failures and reads are noted |
 #![tactic(auto)]
 
@@ -17,7 +19,9 @@ pub mod command;
 pub mod ending;
 pub mod file;
 pub mod folder;
+mod foreign;
 mod machine;
 pub mod notes;
 pub mod own;
+mod summary;
 pub mod watched;

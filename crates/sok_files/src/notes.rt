@@ -1,6 +1,9 @@
-//! What is reported beside the answer of a command: what failed, and which lines of the input are
-//! almost lines of a board. It is noted while the command runs and reported when it has ended.
+//! What is reported beside the answer of a command: what failed, which lines of the input are almost
+//! lines of a board, why a text has no level, and what the answer of `add`, `offers` or `settle`
+//! comes to. It is noted while the command runs and reported when it has ended.
 
+use crate::foreign::Foreign;
+use crate::summary::Summary;
 use sok_engine::output::write_whole;
 use sok_near::near::NearLine;
 use sok_near::scan::NearScan;
@@ -13,6 +16,29 @@ use std::os::unix::fs::MetadataExt;
 /// The path of a file, or the name of a stream, as it is reported. If it has more than 1,000 bytes,
 /// it is cut and ends with three dots.
 pub type Name = InlineText<1000>;
+
+/// Returns the name of a file or stream as it is reported.
+pub fn name_of(text: &str) -> Name {
+    Name::of(Shown(text))
+}
+
+/// A text whose control characters are shown as `\x1b` is, so that a name can't look like another
+/// line or move the cursor.
+#[derive(Drop)]
+struct Shown<'a>(&'a str);
+
+impl fmt::Display for Shown<'_> {
+    fn fmt<W: fmt::Write>(&self, f: &mut fmt::Formatter<W>) -> fmt::Result {
+        for c in self.0.chars() {
+            if c.is_control() {
+                write!(f, "\\x{:02x}", c as u32)?;
+            } else {
+                f.write_char(c)?;
+            }
+        }
+        Ok(())
+    }
+}
 
 /// What failed, and the reason if it is known.
 #[derive(Clone, Copy)]
@@ -58,6 +84,15 @@ impl OpenedFile {
     }
 }
 
+/// A database that was opened to be changed, and what the answer says of it so far.
+#[derive(Drop)]
+struct Changing {
+    file: OpenedFile,
+    /// Whether the command takes levels from the text that it reads.
+    takes_levels: bool,
+    summary: Summary,
+}
+
 /// What is noted while a command runs.
 #[derive(Drop)]
 pub struct Notes {
@@ -65,8 +100,14 @@ pub struct Notes {
     /// Whether the text that is read is a certificate. `None` until its first bytes are read.
     is_other: Cell<Option<bool>>,
     near: RefCell<NearScan>,
-    /// The file that was opened as a database to be changed.
-    database: RefCell<Option<OpenedFile>>,
+    foreign: RefCell<Foreign>,
+    /// Whether a text was read to its end.
+    has_read: Cell<bool>,
+    database: RefCell<Option<Changing>>,
+    /// Whether the answer has bytes.
+    has_answered: Cell<bool>,
+    /// Whether nobody reads the answer any more, as behind `| head`.
+    is_unread: Cell<bool>,
 }
 
 impl Notes {
@@ -76,14 +117,23 @@ impl Notes {
             failure: Cell::new(None),
             is_other: Cell::new(None),
             near: RefCell::new(NearScan::new()),
+            foreign: RefCell::new(Foreign::new()),
+            has_read: Cell::new(false),
             database: RefCell::new(None),
+            has_answered: Cell::new(false),
+            is_unread: Cell::new(false),
         }
     }
 
-    /// Notes the file that was opened as a database to be changed.
-    pub fn set_database(&self, file: OpenedFile) {
+    /// Notes the file that was opened as a database to be changed, how many levels are in it, and
+    /// whether the command adds the levels of a text to them.
+    pub fn set_database(&self, file: OpenedFile, levels: u32, takes_levels: bool) {
         if let Ok(mut database) = self.database.try_borrow_mut() {
-            *database = Some(file);
+            *database = Some(Changing {
+                file,
+                takes_levels,
+                summary: Summary::new(levels),
+            });
         }
     }
 
@@ -92,7 +142,7 @@ impl Notes {
     pub fn database_stands(&self, rt: &HostRuntime) -> bool {
         match self.database.try_borrow() {
             Ok(database) => match &*database {
-                Some(file) => self.stands(rt, file),
+                Some(changing) => self.stands(rt, &changing.file),
                 None => true,
             },
             Err(_) => true,
@@ -104,11 +154,11 @@ impl Notes {
             Ok(true) => true,
             Ok(false) => {
                 let cause = io::Error::other("another file has this name now");
-                self.fail(Name::of(file.path.as_str()), Some(cause));
+                self.fail(name_of(file.path.as_str()), Some(cause));
                 false
             }
             Err(error) => {
-                self.fail(Name::of(file.path.as_str()), Some(error));
+                self.fail(name_of(file.path.as_str()), Some(error));
                 false
             }
         }
@@ -121,8 +171,32 @@ impl Notes {
         }
     }
 
-    /// Searches bytes that were read for lines that are almost lines of a board. No bytes mean that
-    /// the text has ended. A certificate is skipped: it is long and has no such line.
+    /// Notes bytes of the answer that were written. Its lines are counted if they are about a
+    /// database that is changed.
+    pub fn answer(&self, bytes: &[u8]) {
+        if !bytes.is_empty() {
+            self.has_answered.set(true);
+        }
+        if let Ok(mut database) = self.database.try_borrow_mut() {
+            if let Some(changing) = &mut *database {
+                changing.summary.pass(bytes);
+            }
+        }
+    }
+
+    /// Notes that nobody reads the answer any more.
+    pub fn set_unread(&self) {
+        self.is_unread.set(true);
+    }
+
+    /// Returns whether nobody reads the answer any more.
+    pub fn is_unread(&self) -> bool {
+        self.is_unread.get()
+    }
+
+    /// Searches bytes that were read for lines that are almost lines of a board, and for signs that
+    /// no level can be read from them. No bytes mean that the text has ended. A certificate is
+    /// skipped: it is long and has no such line.
     pub fn pass(&self, bytes: &[u8]) {
         let is_other = match self.is_other.get() {
             Some(is_other) => is_other,
@@ -131,6 +205,9 @@ impl Notes {
         let has_ended = bytes.is_empty();
         self.is_other
             .set(if has_ended { None } else { Some(is_other) });
+        if has_ended {
+            self.has_read.set(true);
+        }
         if !is_other {
             self.look(bytes);
         }
@@ -144,10 +221,18 @@ impl Notes {
                 near.pass(bytes);
             }
         }
+        if let Ok(mut foreign) = self.foreign.try_borrow_mut() {
+            if bytes.is_empty() {
+                foreign.end();
+            } else {
+                foreign.pass(bytes);
+            }
+        }
     }
 
-    /// Writes what failed, if the exit status is 5, that of a device. Then writes the first ten of
-    /// the noted lines, and how many more there are.
+    /// Writes what was noted: what failed, if the exit status is 5, that of a device; the first ten
+    /// of the noted lines, and how many more there are; that no level was found; and what the answer
+    /// comes to.
     pub fn tell<E: Write>(&self, status: u8, err: &mut E) {
         if status == 5 {
             if let Some(failure) = self.failure.get() {
@@ -157,6 +242,49 @@ impl Notes {
         if let Ok(near) = self.near.try_borrow() {
             tell_near(near.first(), near.count(), err);
         }
+        if self.takes_levels() {
+            self.tell_no_level(status, err);
+        }
+        if let Ok(database) = self.database.try_borrow() {
+            if let Some(changing) = &*database {
+                tell_summary(&changing.summary, err);
+            }
+        }
+    }
+
+    /// Returns whether a text that the command reads is one of levels.
+    fn takes_levels(&self) -> bool {
+        match self.database.try_borrow() {
+            Ok(database) => match &*database {
+                Some(changing) => changing.takes_levels,
+                None => true,
+            },
+            Err(_) => false,
+        }
+    }
+
+    /// Writes that no level was found, if a text was read and there is nothing to answer of it, or
+    /// if an input is refused and no level can be read from it. Says why, if its bytes show that.
+    fn tell_no_level<E: Write>(&self, status: u8, err: &mut E) {
+        let sign = match self.foreign.try_borrow() {
+            Ok(foreign) => foreign.sign(),
+            Err(_) => None,
+        };
+        let is_empty = status == 0 && self.has_read.get() && !self.has_answered.get();
+        match sign {
+            Some(sign) if is_empty || status == 3 => {
+                tell_line(format_args!("no level was found: {sign}"), err);
+            }
+            None if is_empty => tell_line("no level was found", err),
+            _ => {}
+        }
+    }
+}
+
+/// Writes what the lines of an answer come to, if some were counted.
+fn tell_summary<E: Write>(summary: &Summary, err: &mut E) {
+    if !summary.is_empty() {
+        tell_line(summary, err);
     }
 }
 

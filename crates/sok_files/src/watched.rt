@@ -5,7 +5,7 @@ ghost use Rattle.std.specs.Prelude.{◌≡◌};
 ghost use Rattle.sok_files.specs.Files.{with_makes};
 
 use crate::folder::Folder;
-use crate::notes::{Name, Notes};
+use crate::notes::{Name, Notes, name_of};
 use crate::own::Own;
 use std::alloc::Global;
 use std::io::{self, ErrorKind, Read, Write};
@@ -38,7 +38,7 @@ impl<'a, F> Watched<'a, F> {
 
     /// Notes that the file at `path` failed.
     pub fn fail(&self, path: &str, cause: Option<io::Error>) {
-        self.notes.fail(Name::of(path), cause);
+        self.notes.fail(name_of(path), cause);
     }
 }
 
@@ -122,7 +122,7 @@ impl<'a, R> WatchedInput<'a, R> {
     {
         WatchedInput {
             inner,
-            name: Name::of(name),
+            name: name_of(name),
             notes,
         }
     }
@@ -150,19 +150,49 @@ impl<'a, R: Read> Read for WatchedInput<'a, R> {
 pub struct WatchedOutput<'a, W> {
     inner: W,
     name: Name,
+    /// Whether the answer of the command is written to it.
+    is_answer: bool,
     notes: &'a Notes,
 }
 
 impl<'a, W> WatchedOutput<'a, W> {
-    /// Watches `inner`. Failures are reported under `name`.
-    pub fn new(inner: W, name: &str, notes: &'a Notes) -> WatchedOutput<'a, W>
+    /// Watches the file at a path.
+    pub fn new(inner: W, path: &str, notes: &'a Notes) -> WatchedOutput<'a, W>
         ensures { result.inner ≡ inner }
     {
         WatchedOutput {
             inner,
-            name: Name::of(name),
+            name: name_of(path),
+            is_answer: false,
             notes,
         }
+    }
+
+    /// Watches the standard output, to which the answer is written.
+    pub fn of_answer(inner: W, notes: &'a Notes) -> WatchedOutput<'a, W>
+        ensures { result.inner ≡ inner }
+    {
+        WatchedOutput {
+            inner,
+            name: name_of("standard output"),
+            is_answer: true,
+            notes,
+        }
+    }
+
+    /// Notes that these bytes were written.
+    fn note(&self, bytes: &[u8]) {
+        if self.is_answer {
+            self.notes.answer(bytes);
+        }
+    }
+
+    /// Notes why nothing was written.
+    fn fail(&self, cause: io::Error) {
+        if self.is_answer && cause.kind() == ErrorKind::BrokenPipe {
+            self.notes.set_unread();
+        }
+        self.notes.fail(self.name, Some(cause));
     }
 }
 
@@ -171,18 +201,49 @@ impl<'a, W: Write> Write for WatchedOutput<'a, W> {
 
     fn write(&mut self, buf: &[u8]) -> io::Result<usize> {
         match self.inner.write(buf) {
+            Ok(0) => {
+                self.fail(io::Error::from(ErrorKind::WriteZero));
+                Ok(0)
+            }
             Ok(count) => {
-                if count == 0 {
-                    self.notes
-                        .fail(self.name, Some(io::Error::from(ErrorKind::WriteZero)));
-                }
+                self.note(&buf[..count]);
                 Ok(count)
             }
             Err(error) => {
-                self.notes.fail(self.name, Some(error));
+                self.fail(error);
                 Err(error)
             }
         }
+    }
+
+    fn flush(&mut self) -> io::Result<()> {
+        self.inner.flush()
+    }
+}
+
+/// The error stream. It takes nothing once nobody reads the answer any more, as behind `| head`.
+#[derive(Drop)]
+pub struct WatchedErrors<'a, E> {
+    inner: E,
+    notes: &'a Notes,
+}
+
+impl<'a, E> WatchedErrors<'a, E> {
+    pub fn new(inner: E, notes: &'a Notes) -> WatchedErrors<'a, E>
+        ensures { result.inner ≡ inner }
+    {
+        WatchedErrors { inner, notes }
+    }
+}
+
+impl<'a, E: Write> Write for WatchedErrors<'a, E> {
+    ghost contents = { λ errors. E.contents errors.inner };
+
+    fn write(&mut self, buf: &[u8]) -> io::Result<usize> {
+        if self.notes.is_unread() {
+            return Err(io::Error::from(ErrorKind::BrokenPipe));
+        }
+        self.inner.write(buf)
     }
 
     fn flush(&mut self) -> io::Result<()> {

@@ -1,24 +1,22 @@
 -- Whether a line is nearly of a board is told by its first bytes, and the lines of a text one after another.
-use Rattle.std.proofs.Common.{ℕ, ◌≡◌, ◌+◌, ◌<◌, ◌≤◌, List, [], ◌∷◌, ◌++◌, Option, Some, None, false, ◌&&◌, if◌then◌else◌, ◌==◌, nat_le, length, take}
-use Rattle.std.proofs.Common.{position, codes, sym, ap, ◌∙◌, refl, inl, inr, arith, add-zero}
+use Rattle.std.proofs.Common.{ℕ, ◌≡◌, ◌+◌, ◌<◌, ◌≤◌, List, [], ◌∷◌, ◌++◌, Option, Some, None, false, ◌&&◌, ◌||◌, if◌then◌else◌, nat_le, length, take}
+use Rattle.std.proofs.Common.{position, sym, ap, ◌∙◌, refl, inl, inr, arith, add-zero}
 use Rattle.std.proofs.lemmas.Bool.{cases_lt}
 use Rattle.std.proofs.lemmas.Bool.Decides.{nat_tests}
 use Rattle.std.proofs.lemmas.List.{append_assoc, append-nil, length-append, length-take, take_all}
-use Rattle.std.specs.List.{list_any}
 use Rattle.std.specs.Str.Lines.{strip_carriage_return}
-use Rattle.sok_text.specs.Characters.{code}
 use Rattle.sok_text.specs.Kinds.{kind_of}
 use Rattle.sok_text.specs.declared.kind.Kind.{Kind}
 use Rattle.sok_text.specs.declared.kind.Kind.TheVariants.{Row, Packed, Note}
 use Rattle.sok_text.proofs.Lines.{length-strip_most}
-use Rattle.sok_near.specs.NearLines.{near_limit, has_one_odd, is_odd, near_by, near_place, near_at, near_from}
+use Rattle.sok_near.specs.NearLines.{near_limit, is_hidden_title, is_odd, is_odd_row, near_by, near_place, near_at, near_from}
 
 near_by-long : (kind : Kind) (line : List ℕ) → near_limit < length line → near_by kind line ≡ None
 near_by-long Row line long = refl
 near_by-long Packed line long = refl
 near_by-long Note line long =
     let past : nat_le (length line) near_limit ≡ false = grind (arith, nat_tests) in
-    ap (λ b. if b && list_any (λ c. c == code (codes "#")) line && has_one_odd line then position is_odd line else None) past
+    ap (λ b. if b && (is_hidden_title line || is_odd_row line) then position is_odd line else None) past
 
 -- a long line is not looked at
 near_place-long : (line : List ℕ) → near_limit < length line → near_place line ≡ None

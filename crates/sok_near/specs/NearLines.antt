@@ -1,4 +1,4 @@
--- Lines that are nearly board lines: one of their bytes is not a board character.
+-- Lines that are nearly board lines, since one of their bytes is not a board character, and titles that a byte order mark hides.
 use Rattle.std.specs.Prelude.{ℕ, ◌+◌, List, [], ◌∷◌, ◌++◌, Option, Some, None, Bool, ◌&&◌, ◌||◌, if◌then◌else◌, ◌==◌, nat_eq, nat_le, is_none, length, count_by, position, codes}
 use Rattle.std.specs.Fmt.{decimal}
 use Rattle.std.specs.List.{list_any, starts_with}
@@ -26,9 +26,17 @@ order_mark = 0xEF ∷ 0xBB ∷ 0xBF ∷ []
 abbrev pub has_one_odd : List ℕ → Bool
 has_one_odd line = count_by is_odd line == 1 || (count_by is_odd line == 3 && starts_with nat_eq line order_mark)
 
--- a note is nearly a board line: it is not too long, has a wall, and has one odd byte or a byte order mark
+-- a note that would be a title without the byte order mark at its front
+abbrev pub is_hidden_title : List ℕ → Bool
+is_hidden_title line = starts_with nat_eq line (0xEF ∷ 0xBB ∷ 0xBF ∷ 59 ∷ [])
+
+-- a note has a wall, and one odd byte or a byte order mark
+abbrev pub is_odd_row : List ℕ → Bool
+is_odd_row line = list_any (λ c. c == code (codes "#")) line && has_one_odd line
+
+-- a note is nearly a board line, or a title: it is not too long, and has the form of one but for an odd byte or a byte order mark
 abbrev pub is_near : List ℕ → Bool
-is_near line = nat_le (length line) near_limit && list_any (λ c. c == code (codes "#")) line && has_one_odd line
+is_near line = nat_le (length line) near_limit && (is_hidden_title line || is_odd_row line)
 
 -- the place of the odd byte in a line of this kind, if the line is nearly a board line
 abbrev pub near_by : Kind → List ℕ → Option ℕ

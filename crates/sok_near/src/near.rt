@@ -1,10 +1,10 @@
-//! Which lines are nearly board lines.
+//! Which lines are nearly board lines, or titles that a byte order mark hides.
 
 ghost use Rattle.std.specs.Prelude.{◌≡◌, ◌==◌, IsSome, Some, count_by, position};
 ghost use Rattle.std.specs.List.{list_any};
 ghost use Rattle.sok_text.specs.Kinds.{kind_of};
 ghost use Rattle.sok_text.specs.declared.kind.Kind.TheVariants.{Note};
-ghost use Rattle.sok_near.specs.NearLines.{has_one_odd, is_near, is_odd, near_by, near_place, near_words};
+ghost use Rattle.sok_near.specs.NearLines.{has_one_odd, is_hidden_title, is_near, is_odd, is_odd_row, near_by, near_place, near_words};
 
 use sok_text::kind::{Kind, kind_of};
 use sok_text::xsb::cell_of;
@@ -13,7 +13,7 @@ use std::fmt;
 /// The maximum number of bytes in a line that is checked.
 const NEAR_LIMIT: usize = 1000;
 
-/// A line that is nearly a board line.
+/// A line that is nearly a board line, or a hidden title.
 #[derive(Clone, Copy, Default, PartialEq, Eq)]
 pub struct NearLine {
     /// The number of the line, counted from 1.
@@ -32,8 +32,9 @@ impl fmt::Display for NearLine {
 }
 
 /// Returns the place of the one byte, or the byte order mark, that keeps a line from being a board
-/// line. The line is given without its end. `None` if the line is not a note, has no wall, has more
-/// such bytes, or has more than 1,000 bytes.
+/// line or a title. The line is given without its end. `None` if the line is not a note, has more
+/// than 1,000 bytes, or is neither: a row has a wall and no other such byte, and a title has `;`
+/// after the mark.
 #[tactic(auto, unfolding(crate::specs::NearLines::near_place))]
 pub fn near_place(line: &[u8]) -> Option<usize>
     ensures place { result ≡ near_place line.now }
@@ -57,7 +58,21 @@ fn near_by(kind: Kind, line: &[u8]) -> Option<usize>
 fn is_near(line: &[u8]) -> bool
     ensures { result ≡ is_near line.now }
 {
-    line.len() <= NEAR_LIMIT && has_wall(line) && has_one_odd(line)
+    line.len() <= NEAR_LIMIT && (is_hidden_title(line) || is_odd_row(line))
+}
+
+/// Returns whether a note begins with a byte order mark and the semicolon of a title.
+fn is_hidden_title(line: &[u8]) -> bool
+    ensures { result ≡ is_hidden_title line.now }
+{
+    line.starts_with(b"\xEF\xBB\xBF;")
+}
+
+/// Returns whether a note has a wall, and one odd byte or a byte order mark.
+fn is_odd_row(line: &[u8]) -> bool
+    ensures { result ≡ is_odd_row line.now }
+{
+    has_wall(line) && has_one_odd(line)
 }
 
 fn has_wall(line: &[u8]) -> bool

@@ -73,7 +73,12 @@ pub const SESSION: [Row; 22] = [
         "",
         1,
     ),
-    ("sok add small.db small.xsb", "1 id 1\n2 id 2\n", "", 0),
+    (
+        "sok add small.db small.xsb",
+        "1 id 1\n2 id 2\n",
+        "2 new\n",
+        0,
+    ),
     (
         "sok offer small.db 1 rlulldRurrdLulldRR",
         "stored 4 18\n",
@@ -84,7 +89,7 @@ pub const SESSION: [Row; 22] = [
     (
         "sok offers small.db small.lurd",
         "1 kept 2 6\n2 fault 13 NotSolved\n",
-        "",
+        "1 kept, 1 with a fault\n",
         3,
     ),
     (
@@ -117,11 +122,11 @@ pub const SESSION: [Row; 22] = [
         "",
         0,
     ),
-    ("sok add all.db small.xsb", "1 id 1\n2 id 2\n", "", 0),
+    ("sok add all.db small.xsb", "1 id 1\n2 id 2\n", "2 new\n", 0),
     (
         "sok settle all.db --certs .",
         "1 optimal 2 6\n2 unsolvable\n",
-        "",
+        "1 optimal, 1 unsolvable\n",
         0,
     ),
     (

@@ -1,4 +1,5 @@
-//! What is reported beside an answer: what failed, and lines that are almost lines of a board.
+//! What is reported beside an answer: what failed, lines that are almost lines of a board, why a
+//! text has no level, and what an answer comes to.
 
 use crate::rows::{prepare, put, run_watched, words};
 use sok_files::notes::Notes;
@@ -9,7 +10,7 @@ use std::fs;
 use std::io::Write;
 use std::test::Fail;
 
-const TOLD: [Row; 9] = [
+const TOLD: [Row; 20] = [
     (
         "sok list told/none",
         "",
@@ -65,33 +66,102 @@ const TOLD: [Row; 9] = [
         "line 1: byte 0 is no board character\nline 5: byte 2 is no board character\nline 6: byte 5 is no board character\n",
         0,
     ),
+    (
+        "sok list told/\u{1b}[2J\nfault",
+        "",
+        "fault 50 ReadFailed\n  told/\\x1b[2J\\x0afault: No such file or directory (os error 2)\n",
+        5,
+    ),
+    (
+        "sok list told/returns",
+        "",
+        "no level was found: line ends are CR alone\n",
+        0,
+    ),
+    (
+        "sok solve told/wide 1",
+        "",
+        "fault 15 NoSuchLevel\nno level was found: the text is UTF-16\n",
+        3,
+    ),
+    ("sok list told/cert", "", "no level was found\n", 0),
+    (
+        "sok add told/kept told/levels",
+        "1 id 1\n2 fault 4 ManyPlayers\n3 fault 8 TooFewGoals\n4 id 2\n",
+        "2 new, 2 with a fault\n",
+        0,
+    ),
+    (
+        "sok add told/kept told/levels",
+        "1 id 1\n2 fault 4 ManyPlayers\n3 fault 8 TooFewGoals\n4 id 2\n",
+        "2 already there, 2 with a fault\n",
+        0,
+    ),
+    (
+        "sok add told/kept told/returns",
+        "",
+        "no level was found: line ends are CR alone\n",
+        0,
+    ),
+    (
+        "sok offers told/kept told/offers",
+        "1 stored 1 1\n1 kept 1 1\n9 fault 30 NoLevel\n",
+        "1 stored, 1 kept, 1 with a fault\n",
+        3,
+    ),
+    (
+        "sok settle told/kept --limit 1",
+        "1 optimal 1 1\n2 limit 1 at least 2\n",
+        "1 optimal, 1 at their limit\n",
+        4,
+    ),
+    ("sok offers told/kept told/empty", "", "", 0),
+    // its line has a counted word, but it is one level and no list of them
+    (
+        "sok prove told/kept 1 told/cert",
+        "proved optimal 1\n",
+        "",
+        0,
+    ),
 ];
 
 /// A byte order mark, a tab, an extra carriage return, and titles.
 const NEAR: &str = "\u{feff}#####\n#@$.#\n#####\n; #1\n#@\t$.#\n#####\r\r\nTitle: ##\n";
 
+/// Three rows with CR alone as the end of a line.
+const RETURNS: &str = "#####\r#@$.#\r#####\r";
+
+/// The front of a board in UTF-16.
+const WIDE: &str = "#\0#\0#\0\n\0";
+
+/// A solution of the first level, twice, and letters for a level that is not there.
+const OFFERS: &str = "1 R\n1 R\n9 R\n";
+
 /// Runs the program over watched files, reports what was noted, and returns the status.
 fn run_told<W: Write + Drop>(rt: &HostRuntime, words: &[String], out: W, err: &mut Vec<u8>) -> u8 {
     let notes = Notes::new();
-    let mut out = WatchedOutput::new(out, "standard output", &notes);
+    let mut out = WatchedOutput::of_answer(out, &notes);
     let watched = Watched::new(rt, &notes);
     let status = run_watched(&watched, words, &mut b"".as_slice(), &mut out, err);
     notes.tell(status, err);
     status
 }
 
-/// Returns whether a row has these results, with an output of 64 bytes.
+/// Returns whether a row has these results.
 fn is_told(rt: &HostRuntime, row: Row) -> Result<bool, AllocError> {
-    let (line, out, told, status) = row;
+    let (line, text, told, status) = row;
     let words = words(rt.alloc(), line)?;
+    let mut out = Vec::new(rt.alloc());
     let mut err = Vec::new(rt.alloc());
-    let mut room = [0u8; 64];
-    let is_ended = run_told(rt, words.as_slice(), room.as_mut_slice(), &mut err) == status;
-    Ok(is_ended && room.starts_with(out.as_bytes()) && err.as_slice() == told.as_bytes())
+    let is_ended = run_told(rt, words.as_slice(), &mut out, &mut err) == status;
+    Ok(is_ended && out.as_slice() == text.as_bytes() && err.as_slice() == told.as_bytes())
 }
 
 /// Returns the first row with other results.
-fn first_other(rt: &HostRuntime, rows: &[Row]) -> Result<Option<&'static str>, AllocError> {
+pub(crate) fn first_other(
+    rt: &HostRuntime,
+    rows: &[Row],
+) -> Result<Option<&'static str>, AllocError> {
     for row in rows {
         if !is_told(rt, *row)? {
             return Ok(Some(row.0));
@@ -109,9 +179,13 @@ fn told_when_full(rt: &HostRuntime) -> Result<Vec<u8>, AllocError> {
 }
 
 #[test]
-fn failures_and_near_lines(rt: HostRuntime) -> Result<(), Fail> {
+fn what_is_reported_beside_an_answer(rt: HostRuntime) -> Result<(), Fail> {
     prepare(&rt, "told")?;
     put(&rt, "told", "near", NEAR)?;
+    put(&rt, "told", "returns", RETURNS)?;
+    put(&rt, "told", "wide", WIDE)?;
+    put(&rt, "told", "offers", OFFERS)?;
+    put(&rt, "told", "empty", "")?;
     let other = first_other(&rt, &TOLD)?;
     assert_eq!(rt; other, None);
     let told = told_when_full(&rt)?;

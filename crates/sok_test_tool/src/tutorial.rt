@@ -1,6 +1,6 @@
 //! The session of the tutorial, command by command.
 
-use crate::rows::first_other;
+use crate::told::first_other;
 use sok_sketch::tutorial::{FILES, SESSION};
 use std::fs;
 use std::test::Fail;

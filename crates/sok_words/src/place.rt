@@ -77,101 +77,101 @@ impl Place {
 pub(crate) const FILE: Place = Place {
     name: "FILE",
     kind: Kind::Text,
-    help: "A collection of levels in XSB text, at most 16,777,216 bytes; - is the standard input",
+    help: "A collection of levels (XSB); - reads standard input",
 };
 
 pub(crate) const OFFERS: Place = Place {
     name: "FILE",
     kind: Kind::Text,
-    help: "Lines of an id, a blank and letters, at most 16,777,216 bytes; - is the standard input",
+    help: "Lines of an id, a blank and letters; - reads standard input",
 };
 
 pub(crate) const N: Place = Place {
     name: "N",
     kind: Kind::Number,
-    help: "Which level of the collection, counted from 1",
+    help: "The number of the level in the collection, from 1",
 };
 
 pub(crate) const TEXT: Place = Place {
     name: "TEXT",
     kind: Kind::Text,
-    help: "The letters l, u, r and d in either case, at most 1,000,000; blanks are skipped; - reads them from the standard input",
+    help: "Letters l, u, r and d, at most 1,000,000; - reads standard input",
 };
 
 pub(crate) const LETTERS: Place = Place {
     name: "TEXT",
     kind: Kind::Optional,
-    help: "The letters to play first, as for replay; without them the start is drawn",
+    help: "Letters to play first; without them the start is drawn",
 };
 
 pub(crate) const BELOW: Place = Place {
     name: "below",
     kind: Kind::Pushes,
-    help: "Look only for a solution with fewer than K pushes, as K of a solution that is known",
+    help: "Look only for solutions with fewer than K pushes",
 };
 
 pub(crate) const LIMIT: Place = Place {
     name: "limit",
     kind: Kind::Limit,
-    help: "Give up where more than S states are reached, from 1 to 1,000,000",
+    help: "Keep at most S states, 1 to 1,000,000",
 };
 
 pub(crate) const BOUND: Place = Place {
     name: "bound",
     kind: Kind::Flag,
-    help: "Where the limit is met, tell how many pushes are needed at least",
+    help: "If the limit is exceeded, report a lower bound",
 };
 
 pub(crate) const OUTPUT: Place = Place {
     name: "cert",
     kind: Kind::Path,
-    help: "Write the certificate to this file, which is created or emptied first; never FILE itself",
+    help: "Write the certificate to this file, never to FILE",
 };
 
 pub(crate) const CERT: Place = Place {
     name: "CERT",
     kind: Kind::Text,
-    help: "A certificate, as solve writes it, at most 268,435,456 bytes; - is the standard input",
+    help: "A certificate that solve wrote; - reads standard input",
 };
 
 pub(crate) const DB: Place = Place {
     name: "DB",
     kind: Kind::Text,
-    help: "The database file of a book of levels, which add makes where there is none",
+    help: "The database of the book; only add makes a new one",
 };
 
 pub(crate) const SOLUTIONS: Place = Place {
     name: "solutions",
     kind: Kind::Flag,
-    help: "Note behind each level its best solution, and what is proved of it",
+    help: "Add what is known of each level: its best and verdict",
 };
 
 pub(crate) const ID: Place = Place {
     name: "ID",
     kind: Kind::Id,
-    help: "The id of a level in the book, from 1",
+    help: "The id of the level in the book, from 1",
 };
 
 pub(crate) const FROM: Place = Place {
     name: "from",
     kind: Kind::First,
-    help: "Pass over the levels with a lower id than this one",
+    help: "Skip the levels with a lower id",
 };
 
 pub(crate) const TO: Place = Place {
     name: "to",
     kind: Kind::Last,
-    help: "Pass over the levels with a higher id than this one",
+    help: "Skip the levels with a higher id",
 };
 
 pub(crate) const CERTS: Place = Place {
     name: "certs",
     kind: Kind::Folder,
-    help: "Keep the certificate of each level that is settled in this folder, as ID.cert",
+    help: "Keep each certificate in this folder, as ID.cert",
 };
 
 pub(crate) const SHOWN: Place = Place {
     name: "ID",
     kind: Kind::OptionalId,
-    help: "The id of the level to show, from 1; without it each level is told in a line",
+    help: "The id of a level, from 1; without it all levels are listed",
 };
