@@ -1,7 +1,7 @@
 -- Known positions, as in `KnownPositions` of sok_closed, but from some of them only each solution, once it is rearranged with no more pushes, leads by its first
 -- push to a known position. So each solution agrees, too: by induction on its pushes, and then on its letters.
-use Rattle.std.proofs.Common.{ℕ, ◌≡◌, ◌≤◌, ◌<◌, ◌+◌, ◌-◌, ◌⊎◌, zero, suc, inl, inr, refl, ap, subst, arith, true, List, [], ◌∷◌, Option, Some, None}
-use Rattle.std.proofs.Common.{IsSomeAnd, Bool}
+use Rattle.std.proofs.Common.{ℕ, ◌≡◌, ◌≤◌, ◌<◌, ◌+◌, ◌-◌, ◌⊎◌, zero, suc, inl, inr, refl, ap, subst, arith, List, [], ◌∷◌, Option, Some, None}
+use Rattle.std.proofs.Common.{IsSomeAnd}
 use Rattle.std.specs.Option.{option_and_then, option_map_or}
 use Rattle.std.proofs.lemmas.Bool.{cases_Bool}
 use Rattle.sok_rules.specs.declared.cell.Dir.{Dir}

@@ -7,13 +7,12 @@ ghost use Rattle.sok_state.specs.Keys.{IsKey};
 ghost use Rattle.sok_state.specs.Pushes.{IsLegal, IsOpened};
 ghost use Rattle.sok_corral.specs.Fencing.{AreKept, IsFenceScratch};
 
-use crate::guessing::guess;
+use crate::guessing::{Candidate, guess};
 use crate::lone::Lone;
 use crate::testing::is_fence;
 use sok_board::area::Sq;
 use sok_board::board::Board;
 use sok_distance::setting::Setting;
-use sok_field::field::Field;
 use sok_region::layout::Layout;
 use sok_rules::fault::Memory;
 use sok_state::key::Key;
@@ -26,13 +25,8 @@ use std::alloc::Global;
 pub struct FenceScratch {
     pub(crate) layout: Layout,
     pub(crate) lone: Lone,
-    /// A part of the area that the player can't reach.
-    pub(crate) part: Field,
-    /// Squares beside boxes in the parts that were looked at.
-    pub(crate) parts: Field,
-    /// The boxes of a fence that is looked for.
-    pub(crate) boxes: Vec<Sq>,
-    /// Those of the fence with the fewest pushes so far.
+    pub(crate) candidate: Candidate,
+    /// The boxes of the guessed fence that has the fewest pushes.
     pub(crate) best: Vec<Sq>,
 }
 
@@ -44,9 +38,7 @@ impl FenceScratch {
         FenceScratch {
             layout: Layout::new(alloc, board),
             lone: Lone::new(alloc),
-            part: Field::new(),
-            parts: Field::new(),
-            boxes: Vec::new(alloc),
+            candidate: Candidate::new(alloc),
             best: Vec::new(alloc),
         }
     }

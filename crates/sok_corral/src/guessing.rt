@@ -11,7 +11,7 @@ ghost use Rattle.sok_corral.specs.Guessing.{NamesSquares};
 use crate::fencing::FenceScratch;
 use crate::lone::Lone;
 use crate::sets::{has, put};
-use crate::testing::{is_astray, is_jammed};
+use crate::testing::{is_astray, is_shut};
 use sok_board::area::Sq;
 use sok_board::board::Board;
 use sok_distance::setting::Setting;
@@ -23,9 +23,13 @@ use sok_rules::fault::Memory;
 use sok_state::key::Key;
 use sok_state::push::Push;
 use sok_state::scene::Scene;
+use std::alloc::Global;
 
 /// The maximum number of boxes of a fence. Larger ones are rare, and looking for them takes long.
 const FENCE_BOXES: usize = 8;
+
+/// How often boxes are added to a fence before it is given up.
+const ROUNDS: usize = 4;
 
 const DIRS: [Dir; 4] = [Dir::Left, Dir::Up, Dir::Right, Dir::Down];
 
@@ -37,6 +41,16 @@ enum Finding {
     /// A push is not. It may be if boxes shut the player out from the first square, or else from the
     /// second one.
     Ajar(Sq, Sq),
+}
+
+/// Boxes that are collected to be a fence.
+#[derive(Drop)]
+pub(crate) struct Candidate {
+    pub(crate) boxes: Vec<Sq>,
+    /// The part of the area that was flooded last.
+    part: Field,
+    /// The squares beside boxes in each part that was flooded for this state.
+    parts: Field,
 }
 
 /// What happens to a fence when boxes are added.
@@ -65,9 +79,9 @@ pub(crate) fn guess(
     ensures { OnOk result (IsFenceScratch setting.now.board.now scratch.new) }
 {
     let mut fewest = pushes.len();
-    scratch.parts.clear();
+    scratch.candidate.parts.clear();
     for from in key.boxes.list() {
-        let Some(start) = part_beside(setting.board, scene, &scratch.parts, *from) else {
+        let Some(start) = part_beside(setting.board, scene, &scratch.candidate.parts, *from) else {
             continue;
         };
         if is_loose(setting, scene, *from) {
@@ -77,7 +91,7 @@ pub(crate) fn guess(
         if let Some(fewer) = found {
             fewest = fewer;
             scratch.best.clear();
-            scratch.best.extend_from_slice(&scratch.boxes)?;
+            scratch.best.extend_from_slice(&scratch.candidate.boxes)?;
         }
     }
     Ok(fewest < pushes.len())
@@ -146,20 +160,18 @@ fn guess_around(
     ensures { OnOk result (IsFenceScratch setting.now.board.now scratch.new) }
 {
     let boxes = key.boxes.list();
-    scratch.boxes.clear();
-    let parts = &mut scratch.parts;
-    let (part, list) = (&mut scratch.part, &mut scratch.boxes);
-    let mut growth = shut(setting, boxes, scene, start, part, parts, list)?;
-    'rounds: for _ in 0..FENCE_BOXES {
-        if !matches!(growth, Growth::Grown) || scratch.boxes.len() > FENCE_BOXES {
+    scratch.candidate.boxes.clear();
+    let mut growth = scratch.candidate.shut(setting, boxes, scene, start)?;
+    'rounds: for _ in 0..ROUNDS {
+        if !matches!(growth, Growth::Grown) || scratch.candidate.boxes.len() > FENCE_BOXES {
             return Ok(None);
         }
-        let count = count(&scratch.boxes, pushes);
+        let count = count(&scratch.candidate.boxes, pushes);
         if count >= fewest {
             return Ok(None);
         }
         let (lone, layout) = (&mut scratch.lone, &mut scratch.layout);
-        lone.lay(setting.board, key, &scratch.boxes, layout)?;
+        lone.lay(setting.board, key, &scratch.candidate.boxes, layout)?;
         match look(setting, scene, lone, layout, &lone.boxes) {
             Finding::Shut => {
                 if !is_astray(setting.board, boxes, &scratch.lone.reached) {
@@ -168,9 +180,9 @@ fn guess_around(
                 return Ok(Some(count));
             }
             Finding::Ajar(first, second) => {
-                let parts = &mut scratch.parts;
-                let (part, list) = (&mut scratch.part, &mut scratch.boxes);
-                growth = grow(setting, boxes, scene, first, second, part, parts, list)?;
+                growth = scratch
+                    .candidate
+                    .grow(setting, boxes, scene, first, second)?;
             }
         }
     }
@@ -185,96 +197,98 @@ fn count(boxes: &[Sq], pushes: &[Push]) -> usize {
         .count()
 }
 
-/// Adds the boxes that shut the player out from a square, or else those of another one.
-fn grow(
-    setting: &Setting<'_>,
-    boxes: &[Sq],
-    scene: &Scene,
-    first: Sq,
-    second: Sq,
-    part: &mut Field,
-    parts: &mut Field,
-    list: &mut Vec<Sq>,
-) -> Result<Growth, Memory>
-    requires accepted { IsAccepted setting.now.board.now }
-    requires exist { All (λ n. n < length setting.now.board.now.area) boxes.now }
-    requires first { first < length setting.now.board.now.area }
-    requires second { second < length setting.now.board.now.area }
-{
-    let growth = shut(setting, boxes, scene, first, part, parts, list)?;
-    if second == first || !matches!(growth, Growth::Same) {
-        return Ok(growth);
+impl Candidate {
+    /// Makes an empty candidate.
+    pub(crate) fn new(alloc: Global) -> Candidate {
+        Candidate {
+            boxes: Vec::new(alloc),
+            part: Field::new(),
+            parts: Field::new(),
+        }
     }
-    shut(setting, boxes, scene, second, part, parts, list)
-}
 
-/// Adds the boxes that shut the player out from a square: the one there, or those beside the part of
-/// the area that has it. The squares of this part beside them are put into `parts`.
-fn shut(
-    setting: &Setting<'_>,
-    boxes: &[Sq],
-    scene: &Scene,
-    square: Sq,
-    part: &mut Field,
-    parts: &mut Field,
-    list: &mut Vec<Sq>,
-) -> Result<Growth, Memory>
-    requires accepted { IsAccepted setting.now.board.now }
-    requires exist { All (λ n. n < length setting.now.board.now.area) boxes.now }
-    requires exists { square < length setting.now.board.now.area }
-{
-    let free = scene.layout.free();
-    if !has(setting.board, free, square) {
-        return add(setting, scene, square, list);
+    /// Adds the boxes that shut the player out from a square, or else those of another one.
+    fn grow(
+        &mut self,
+        setting: &Setting<'_>,
+        boxes: &[Sq],
+        scene: &Scene,
+        first: Sq,
+        second: Sq,
+    ) -> Result<Growth, Memory>
+        requires accepted { IsAccepted setting.now.board.now }
+        requires exist { All (λ n. n < length setting.now.board.now.area) boxes.now }
+        requires first { first < length setting.now.board.now.area }
+        requires second { second < length setting.now.board.now.area }
+    {
+        let growth = self.shut(setting, boxes, scene, first)?;
+        if second == first || !matches!(growth, Growth::Same) {
+            return Ok(growth);
+        }
+        self.shut(setting, boxes, scene, second)
     }
-    drawing::flood_from(part, free, setting.board, square);
-    let mut growth = Growth::Same;
-    for one in boxes {
-        if mark(setting.board, part, *one, parts) && !matches!(growth, Growth::Loose) {
-            match add(setting, scene, *one, list)? {
-                Growth::Same => {}
-                added => growth = added,
+
+    /// Adds the boxes that shut the player out from a square: the one there, or those beside the part
+    /// of the area that has it.
+    fn shut(
+        &mut self,
+        setting: &Setting<'_>,
+        boxes: &[Sq],
+        scene: &Scene,
+        square: Sq,
+    ) -> Result<Growth, Memory>
+        requires accepted { IsAccepted setting.now.board.now }
+        requires exist { All (λ n. n < length setting.now.board.now.area) boxes.now }
+        requires exists { square < length setting.now.board.now.area }
+    {
+        let free = scene.layout.free();
+        if !has(setting.board, free, square) {
+            return self.add(setting, scene, square);
+        }
+        drawing::flood_from(&mut self.part, free, setting.board, square);
+        let mut growth = Growth::Same;
+        for one in boxes {
+            if self.mark(setting.board, *one) && !matches!(growth, Growth::Loose) {
+                match self.add(setting, scene, *one)? {
+                    Growth::Same => {}
+                    added => growth = added,
+                }
             }
         }
+        Ok(growth)
     }
-    Ok(growth)
-}
 
-/// Adds a box, unless it is there or in no fence.
-fn add(
-    setting: &Setting<'_>,
-    scene: &Scene,
-    square: Sq,
-    boxes: &mut Vec<Sq>,
-) -> Result<Growth, Memory>
-    requires accepted { IsAccepted setting.now.board.now }
-    requires exists { square < length setting.now.board.now.area }
-{
-    if boxes.contains(&square) {
-        return Ok(Growth::Same);
-    }
-    if is_loose(setting, scene, square) {
-        return Ok(Growth::Loose);
-    }
-    boxes.push(square)?;
-    Ok(Growth::Grown)
-}
-
-/// Puts the squares of a part that are beside a box into `parts`. Returns whether there are any.
-fn mark(board: &Board, part: &Field, square: Sq, parts: &mut Field) -> bool
-    requires accepted { IsAccepted board.now }
-    requires exists { square < length board.now.area }
-{
-    let mut is_beside = false;
-    for dir in DIRS {
-        if let Some(beside) = board.neighbour(square, dir)
-            && has(board, part, beside)
-        {
-            put(board, parts, beside);
-            is_beside = true;
+    /// Adds a box, unless it is there or in no fence.
+    fn add(&mut self, setting: &Setting<'_>, scene: &Scene, square: Sq) -> Result<Growth, Memory>
+        requires accepted { IsAccepted setting.now.board.now }
+        requires exists { square < length setting.now.board.now.area }
+    {
+        if self.boxes.contains(&square) {
+            return Ok(Growth::Same);
         }
+        if is_loose(setting, scene, square) {
+            return Ok(Growth::Loose);
+        }
+        self.boxes.push(square)?;
+        Ok(Growth::Grown)
     }
-    is_beside
+
+    /// Marks the squares of the part that are beside a box. Returns whether there are any.
+    fn mark(&mut self, board: &Board, square: Sq) -> bool
+        requires accepted { IsAccepted board.now }
+        requires exists { square < length board.now.area }
+    {
+        let mut is_beside = false;
+        for dir in DIRS {
+            if let Some(beside) = board.neighbour(square, dir)
+                && has(board, &self.part, beside)
+            {
+                put(board, &mut self.parts, beside);
+                is_beside = true;
+            }
+        }
+        is_beside
+    }
 }
 
 /// Looks at each push of some boxes that are laid out alone.
@@ -328,20 +342,11 @@ fn look_along(
     let Some(to) = board.neighbour(from, dir) else {
         return Finding::Shut;
     };
-    if setting.distances.stuck(to)
-        || !has(board, &lone.reached, man)
-        || has(board, layout.boxed(), to)
-    {
+    if is_shut(setting, scene, lone, layout, man, from, to) {
         return Finding::Shut;
     }
     let comes = has(board, &scene.reached, man);
     let leaves = has(board, &lone.reached, to);
-    if !leaves && (comes || has(board, scene.layout.boxed(), to)) {
-        return Finding::Shut;
-    }
-    if is_jammed(setting, lone, layout, from, to) {
-        return Finding::Shut;
-    }
     if !leaves || has(board, &scene.reached, to) {
         return Finding::Ajar(man, man);
     }

@@ -23,13 +23,7 @@ use sok_state::scene::Scene;
 
 /// Returns whether one of these boxes, alone on the board, is pushed into a jam of them. The push is
 /// made in `layout` and taken back.
-pub(crate) fn is_jammed(
-    setting: &Setting<'_>,
-    lone: &Lone,
-    layout: &mut Layout,
-    from: Sq,
-    to: Sq,
-) -> bool
+fn is_jammed(setting: &Setting<'_>, lone: &Lone, layout: &mut Layout, from: Sq, to: Sq) -> bool
     requires accepted { IsAccepted setting.now.board.now }
     requires there { Contains lone.now.boxes.items from }
     requires to { to < length setting.now.board.now.area }
@@ -50,7 +44,7 @@ pub(crate) fn is_jammed(
 
 /// Returns whether a push of a fence's box is blocked by a box that stays, or leads to no solution, or
 /// leads out of the player's squares and can be made now.
-fn is_shut(
+pub(crate) fn is_shut(
     setting: &Setting<'_>,
     scene: &Scene,
     lone: &Lone,

@@ -105,7 +105,8 @@ pub fn find(alloc: Global, level: &Level, limit: u32) -> Result<Found, SolveFaul
 /// without a solution, too.
 ///
 /// It is the search of `find`, which knows that only fewer than `best` pushes count, so it keeps fewer
-/// states. It also answers `Optimal` if the search exceeds the limit, but its open list shows as much.
+/// states. It also answers `Optimal` if the limit is exceeded, but each open state needs at least `best`
+/// pushes.
 pub fn improve(alloc: Global, level: &Level, limit: u32, best: u32) -> Result<Improved, SolveFault>
     ensures improved { IfOk result (IsImproved level.now limit best) }
     ensures tells { TellsFault level.now limit result }
@@ -187,7 +188,7 @@ fn outcome(alloc: Global, level: &Level, limit: u32, wanted: bool) -> Result<Out
     }
 }
 
-/// Puts the certificate that has these entries to what was found.
+/// Adds the certificate with these entries to what was found.
 fn certified(found: Found, wanted: bool, entries: Vec<Entry>) -> Outcome
     ensures { (rows : Rows) (limit : ℕ)
         → IsFoundWithProof (λ taken. entries.items ≡ taken) rows limit wanted found
@@ -262,7 +263,7 @@ fn answer<C: Entries>(
     ensures { IfOk result
         (IsFindingWithProof (λ taken. C.took taken entries.new) board.now.rows limit wanted upper) }
 {
-    // Its clauses tell that the level is accepted.
+    // Only for its contract, which says that the level is accepted.
     let _level = board.level();
     let aim = Aim { whole: true, upper };
     let mut search = empty(alloc, board, aim)?;
@@ -307,7 +308,7 @@ fn find_on(alloc: Global, board: &Board, limit: u32, upper: Option<u32>) -> Resu
     requires { 0 < limit }
     ensures { IfOk result (IsFinding board.now.rows limit upper) }
 {
-    // Its clauses tell that the level is accepted.
+    // Only for its contract, which says that the level is accepted.
     let _level = board.level();
     let aim = Aim {
         whole: false,
@@ -355,7 +356,8 @@ fn halted(limit: u32, search: &Search) -> Finding
     }
 }
 
-/// Does so with a certificate, if the search has an answer all the same, or one is wanted of the limit.
+/// Like `halted`, but hands over a certificate if the search has an answer all the same, or if one is
+/// wanted of the limit.
 fn halt<C: Entries>(
     alloc: Global,
     setting: &Setting<'_>,
@@ -389,7 +391,7 @@ fn halt<C: Entries>(
     })
 }
 
-/// Searches from the start until the open list is empty. `Cut` if the table is full before.
+/// Searches from the start until the open list is empty. Returns `Stop::Cut` if the table is full before.
 fn search_all(
     alloc: Global,
     setting: &Setting<'_>,
@@ -440,7 +442,7 @@ fn claim_of(best: Option<u32>) -> Claim
     }
 }
 
-/// Does so with a certificate.
+/// Like `find_in`, but hands over a certificate.
 fn conclude<C: Entries>(
     alloc: Global,
     setting: &Setting<'_>,
