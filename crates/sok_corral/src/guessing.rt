@@ -10,15 +10,15 @@ ghost use Rattle.sok_corral.specs.Guessing.{NamesSquares};
 
 use crate::fencing::FenceScratch;
 use crate::lone::Lone;
-use crate::sets::{has, put};
+use crate::sets::has;
 use crate::testing::{is_astray, is_shut};
 use sok_board::area::Sq;
 use sok_board::board::Board;
 use sok_distance::setting::Setting;
 use sok_field::drawing;
-use sok_field::field::Field;
+use sok_field::field::{self, Field};
 use sok_region::layout::Layout;
-use sok_rules::cell::Dir;
+use sok_rules::cell::{Dir, Spot};
 use sok_rules::fault::Memory;
 use sok_state::key::Key;
 use sok_state::push::Push;
@@ -278,16 +278,22 @@ impl Candidate {
         requires accepted { IsAccepted board.now }
         requires exists { square < length board.now.area }
     {
-        let mut is_beside = false;
-        for dir in DIRS {
-            if let Some(beside) = board.neighbour(square, dir)
-                && has(board, &self.part, beside)
-            {
-                put(board, &mut self.parts, beside);
-                is_beside = true;
-            }
+        let Spot { row, col } = board.spot(square);
+        let left = self.mark_at(row, col.wrapping_sub(1));
+        let up = self.mark_at(row.wrapping_sub(1), col);
+        let right = self.mark_at(row, col.wrapping_add(1));
+        let down = self.mark_at(row.wrapping_add(1), col);
+        left || up || right || down
+    }
+
+    /// Marks a square by its row and column if it is in the part. Returns whether it is.
+    fn mark_at(&mut self, row: u32, col: u32) -> bool {
+        let spot = Spot { row, col };
+        let is_there = row < field::ROWS as u32 && col < field::COLUMNS && self.part.has(spot);
+        if is_there {
+            self.parts.put(spot);
         }
-        is_beside
+        is_there
     }
 }
 

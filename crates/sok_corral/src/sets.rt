@@ -16,11 +16,3 @@ pub(crate) fn has(board: &Board, set: &Field, square: Sq) -> bool
 {
     set.has(board.spot(square))
 }
-
-/// Puts a square into a set.
-pub(crate) fn put(board: &Board, set: &mut Field, square: Sq)
-    requires accepted { IsAccepted board.now }
-    requires exists { square < length board.now.area }
-{
-    set.put(board.spot(square));
-}

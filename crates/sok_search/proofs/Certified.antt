@@ -31,7 +31,7 @@ beaten-at_most (Some k) n beaten = beaten
 
 -- where nothing waits, each state is done with
 stands-done : (b : BoardView) (p : Progress) (i : ℕ) (key : Key) (depth : ℕ) → p.queue ≡ [] → (s : Standing) → Stands b p i key depth s
-    → IsDone b (claim_of p.best) (losses_of p.frame.losses) key.least key.boxes depth s
+    → IsDone b p.frame.aim.whole (claim_of p.best) (losses_of p.frame.losses) key.least key.boxes depth s
 stands-done b p i key depth none (Open bound) (prices, inl waits) = absurd (none_waits p.queue i none waits)
 stands-done b p i key depth none (Open bound) (prices, inr beaten) = (bound, prices, beaten-at_most p.best (depth + bound) beaten)
 stands-done b p i key depth none (Expanded bound) stands = tt
@@ -41,13 +41,13 @@ stands-done b p i key depth none (Lost place) lost = lost
 pub done-finished : (b : BoardView) (limit : ℕ) (p : Progress) (claim : Claim) → IsSearch b limit p → p.queue ≡ [] → claim ≡ claim_of p.best
     → AreDone b claim p
 done-finished b limit p claim search none is i key depth note state =
-    subst (λ c. IsDone b c (losses_of p.frame.losses) key.least key.boxes depth note.standing) (sym is)
+    subst (λ c. IsDone b p.frame.aim.whole c (losses_of p.frame.losses) key.least key.boxes depth note.standing) (sym is)
     (stands-done b p i key depth none note.standing (search.noted i key depth note state).stands)
 
 -- so it is for what no open state needs less of
 stands-least : (b : BoardView) (p : Progress) (i : ℕ) (key : Key) (depth least : ℕ) (s : Standing)
     → ((bound : ℕ) → s ≡ Open bound → least ≤ depth + bound) → Stands b p i key depth s
-    → IsDone b (Pushes least) (losses_of p.frame.losses) key.least key.boxes depth s
+    → IsDone b p.frame.aim.whole (Pushes least) (losses_of p.frame.losses) key.least key.boxes depth s
 stands-least b p i key depth least (Open bound) enough (prices, stands) = (bound, prices, enough bound refl)
 stands-least b p i key depth least (Expanded bound) enough stands = tt
 stands-least b p i key depth least Dead enough dead = dead

@@ -15,7 +15,7 @@ use Rattle.sok_search.specs.declared.note.Note.{Note}
 use Rattle.sok_search.specs.declared.note.Origin.{Origin}
 use Rattle.sok_search.specs.declared.note.Standing.{Standing}
 use Rattle.sok_search.specs.declared.note.Standing.TheVariants.{Open, Expanded, Dead, Lost}
-use Rattle.sok_search.specs.Searches.{Frame, Progress, AreEnough, IsBeaten, IsBegun, IsCome, IsFrom, IsLater, IsLeftOut, IsMet, IsNoted, IsReached, IsSearch, IsSolvedIn, IsState, Stands}
+use Rattle.sok_search.specs.Searches.{Frame, Progress, AreEnough, HasBound, IsBeaten, IsBegun, IsCome, IsFrom, IsLater, IsLeftOut, IsMet, IsNoted, IsReached, IsSearch, IsSolvedIn, IsState, Stands}
 use Rattle.sok_search.specs.Steps.{Grows, knowing}
 
 pub Grows-refl : (table : Entries) → Grows table table
@@ -68,12 +68,18 @@ pub record IsUnchanged (p q : Progress) (i : ℕ) (key : Key) (depth : ℕ) (not
   pub state : IsState p i key depth note
   pub waits : Contains p.queue i → Contains q.queue i
 
+bound-along : (b : BoardView) (p q : Progress) → IsLater b p.frame q.frame → (key : Key) (bound : ℕ)
+    → HasBound b p.frame.aim.whole key.least key.boxes bound → HasBound b q.frame.aim.whole key.least key.boxes bound
+bound-along b p q same key bound = subst (λ aim. HasBound b aim.whole key.least key.boxes bound) (sym same.aim)
+
 pub stands-along : (b : BoardView) (p q : Progress) → IsLater b p.frame q.frame → Grows p.table q.table → ((n : ℕ) → IsBeaten p.best n → IsBeaten q.best n)
     → (i : ℕ) (key : Key) (depth : ℕ) (s : Standing) → (Contains p.queue i → Contains q.queue i) → Stands b p i key depth s → Stands b q i key depth s
-stands-along b p q same grows better i key depth (Open bound) waits (prices, inl waited) = (prices, inl (waits waited))
-stands-along b p q same grows better i key depth (Open bound) waits (prices, inr beaten) = (prices, inr (better (depth + bound) beaten))
-stands-along b p q same grows better i key depth (Expanded bound) waits (prices, unsolved, (chosen, enough, met)) = (
-  prices,
+stands-along b p q same grows better i key depth (Open bound) waits (bounded, inl waited) =
+    (bound-along b p q same key bound bounded, inl (waits waited))
+stands-along b p q same grows better i key depth (Open bound) waits (bounded, inr beaten) =
+    (bound-along b p q same key bound bounded, inr (better (depth + bound) beaten))
+stands-along b p q same grows better i key depth (Expanded bound) waits (bounded, unsolved, (chosen, enough, met)) = (
+  bound-along b p q same key bound bounded,
   unsolved,
   (
     chosen,

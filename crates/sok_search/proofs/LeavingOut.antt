@@ -1,6 +1,6 @@
 -- A push that brings a box to where it reaches no goal, or is lost with one or two others: nothing solves after it, so it may be left out. And so may one after
 -- which a bound leaves no fewer pushes than a solution has that is known.
-use Rattle.std.proofs.Common.{ℕ, List, ◌≡◌, ◌≤◌, ◌+◌, ◌∙◌, inl, inr, refl, sym, ap, subst, true, Option, Some, None, arith}
+use Rattle.std.proofs.Common.{ℕ, List, ◌≡◌, ◌≤◌, ◌+◌, ◌∙◌, inl, inr, refl, sym, ap, subst, true, Bool, Option, Some, None, arith}
 use Rattle.sok_rules.specs.Play.{NeverFrom, Position, pushes}
 use Rattle.sok_rules.specs.States.{Same}
 use Rattle.sok_rules.proofs.Walking.{Same-sym}
@@ -11,8 +11,7 @@ use Rattle.sok_board.proofs.Positions.{listed_box}
 use Rattle.sok_distance.specs.Pushing.{IsStuck}
 use Rattle.sok_board.specs.BoxSets.{put_in_order}
 use Rattle.sok_board.proofs.Moves.{IsMoved-put}
-use Rattle.sok_bar.specs.declared.rest.Rest.TheVariants.{AtLeast, Never}
-use Rattle.sok_bar.specs.Bars.{Barring}
+use Rattle.sok_bar.specs.declared.rest.Rest.TheVariants.{Never}
 use Rattle.sok_bar.proofs.Kept.{never_stuck}
 use Rattle.sok_bar.proofs.ReasonLaws.{reasons-bar}
 use Rattle.sok_closed.proofs.Looking.{standing-after}
@@ -25,7 +24,7 @@ use Rattle.sok_alone.specs.declared.losses.Loss.{Loss}
 use Rattle.sok_search.specs.declared.note.Standing.{Standing}
 use Rattle.sok_search.specs.declared.note.Standing.TheVariants.{Open, Expanded, Dead, Lost}
 use Rattle.sok_search.specs.Searches.{Progress, HasBound, IsBeaten, IsDead, IsLeftOut, IsSearch, IsSpared, LeadsNowhere, LeadsToNoFewer}
-use Rattle.sok_search.specs.Steps.{IsJudged, IsPushed, holding}
+use Rattle.sok_search.specs.Steps.{IsBoundedAs, IsPushed, holding}
 use Rattle.sok_search.proofs.Invariant.{Grows-refl}
 
 -- nothing solves once a box stands where it reaches no goal
@@ -67,20 +66,19 @@ module _ (b : BoardView) (accepted : IsAccepted b) (key next : Key) (push : Push
   dead-nowhere (why, of_boxes, bars) after leads w solves =
       (reasons-bar b accepted next.least next.boxes why Never state.is.placed (bars next.least Never)).each after (same-after after leads) w solves
 
-  bounded-no_fewer : (bound : ℕ) → HasBound b next.boxes bound → (upper : Option ℕ) (depth : ℕ) → IsBeaten upper (depth + 1 + bound)
-      → LeadsToNoFewer b upper key depth push
-  bounded-no_fewer bound ((u, v, priced), cost) upper depth beaten after leads w solves =
-      let enough = (reasons-bar b accepted next.least next.boxes (Barring.bound u v) (AtLeast bound) state.is.placed priced).each after (same-after after leads) w
-      solves in
+  bounded-no_fewer : (whole : Bool) (bound : ℕ) → HasBound b whole next.least next.boxes bound → (upper : Option ℕ) (depth : ℕ)
+      → IsBeaten upper (depth + 1 + bound) → LeadsToNoFewer b upper key depth push
+  bounded-no_fewer whole bound bounded upper depth beaten after leads w solves =
+      let enough = bounded.needs after (same-after after leads) w solves in
       more-beaten upper (depth + 1 + bound) (depth + 1 + pushes b.rows after w) (omega (arith, enough)) beaten
 
   -- so it is where that state is spared
-  pub spared-no_fewer : (losses : List Loss) (standing : Standing) → IsJudged b losses next.least next.boxes standing → (upper : Option ℕ) (depth : ℕ)
-      → IsSpared upper standing (depth + 1) → LeadsToNoFewer b upper key depth push
-  spared-no_fewer losses (Open bound) bounded upper depth beaten = bounded-no_fewer bound bounded upper depth beaten
-  spared-no_fewer losses Dead dead upper depth spared = nowhere-no_fewer b upper key depth push (dead-nowhere dead)
-  spared-no_fewer losses (Expanded bound) judged upper depth spared = absurd spared
-  spared-no_fewer losses (Lost place) judged upper depth spared = absurd spared
+  pub spared-no_fewer : (whole : Bool) (losses : List Loss) (standing : Standing) → IsBoundedAs b whole losses next.least next.boxes standing
+      → (upper : Option ℕ) (depth : ℕ) → IsSpared upper standing (depth + 1) → LeadsToNoFewer b upper key depth push
+  spared-no_fewer whole losses (Open bound) bounded upper depth beaten = bounded-no_fewer whole bound bounded upper depth beaten
+  spared-no_fewer whole losses Dead dead upper depth spared = nowhere-no_fewer b upper key depth push (dead-nowhere dead)
+  spared-no_fewer whole losses (Expanded bound) judged upper depth spared = absurd spared
+  spared-no_fewer whole losses (Lost place) judged upper depth spared = absurd spared
 
 -- so it may be left out
 pub pushed-left_out : (b : BoardView) (limit index : ℕ) (p : Progress) → IsSearch b limit (holding index p) → (key : Key) (depth : ℕ) (push : Push)

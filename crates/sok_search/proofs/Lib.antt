@@ -1,5 +1,6 @@
 pub mod Adding
 pub mod Asking
+pub mod Bounding
 pub mod Bucketing
 pub mod Certified
 pub mod Chains

@@ -1,6 +1,6 @@
 -- The reason of a state that is found again bars as far as before.
 use Rattle.std.proofs.Common.{ℕ, ◌≡◌, ◌<◌, ◌≤◌, ◌+◌, ◌∙◌, List, [], ◌∷◌, ◌++◌, zero, suc, All, Contains, Some}
-use Rattle.std.proofs.Common.{arith, ap, get_or, length, slice_get, subst, sym}
+use Rattle.std.proofs.Common.{arith, ap, get_or, length, refl, slice_get, subst, sym, true}
 use Rattle.std.proofs.lemmas.List.Elements.{All-append, All-nil, All-weaker}
 use Rattle.std.proofs.lemmas.Option.{same_Some, slice_get-get_or, slice_get_within}
 use Rattle.sok_board.specs.Area.{BoardView}
@@ -37,23 +37,25 @@ bound-priced b boxes u v n depth k priced near player =
     }
 
 -- prices that are found again bound as far as any did
-bound-again : (b : BoardView) (boxes u v goal_of : List ℕ) (total depth : ℕ) (claim : Claim) → CostsEnough b claim boxes depth
+bound-again : (b : BoardView) (from : ℕ) (boxes u v goal_of : List ℕ) (total depth : ℕ) (claim : Claim) → CostsEnough b true claim from boxes depth
     → ArePrices b boxes u v total goal_of
     → (player : ℕ) → Bars b player boxes (Barring.bound u v) (rest_of claim depth)
-bound-again b boxes u v goal_of total depth Unsolvable (bound, prices, none) are = absurd none
-bound-again b boxes u v goal_of total depth (Pushes k) (bound, ((us, vs, priced), costs), near) are =
-    let least = AtLeast-IsAssignment b boxes us vs goal_of are.distances bound priced are.assignment in
+bound-again b from boxes u v goal_of total depth Unsolvable (bound, prices, none) are = absurd none
+bound-again b from boxes u v goal_of total depth (Pushes k) (bound, has, near) are =
+    let ((us, vs, priced), costs) = has.price in
+    let least = AtLeast-IsAssignment b boxes us vs goal_of are.distances has.cost priced are.assignment in
     let cost = are.cost in
-    bound-priced b boxes u v total depth k are.priced (omega (arith, least, cost, near))
+    let same = has.is_price refl in
+    bound-priced b boxes u v total depth k are.priced (omega (arith, least, cost, near, same))
 
-pub assigned-again : (b : BoardView) (boxes : List ℕ) (depth : ℕ) (claim : Claim) → CostsEnough b claim boxes depth → (why : Reason) → IsAssigned b boxes why
+pub assigned-again : (b : BoardView) (from : ℕ) (boxes : List ℕ) (depth : ℕ) (claim : Claim) → CostsEnough b true claim from boxes depth → (why : Reason) → IsAssigned b boxes why
     → (player : ℕ) → ReasonBars b player boxes why (rest_of claim depth)
-assigned-again b boxes depth claim enough reason.Expanded none = absurd none
-assigned-again b boxes depth claim enough reason.Spent none = absurd none
-assigned-again b boxes depth claim enough (reason.Bound u v) (total, goal_of, are) = bound-again b boxes u v goal_of total depth claim enough are
-assigned-again b boxes depth claim enough (reason.Crowd members) crowd = λ player. crowd
-assigned-again b boxes depth claim enough (reason.Frozen members) none = absurd none
-assigned-again b boxes depth claim enough (reason.Pattern members inner) none = absurd none
+assigned-again b from boxes depth claim enough reason.Expanded none = absurd none
+assigned-again b from boxes depth claim enough reason.Spent none = absurd none
+assigned-again b from boxes depth claim enough (reason.Bound u v) (total, goal_of, are) = bound-again b from boxes u v goal_of total depth claim enough are
+assigned-again b from boxes depth claim enough (reason.Crowd members) crowd = λ player. crowd
+assigned-again b from boxes depth claim enough (reason.Frozen members) none = absurd none
+assigned-again b from boxes depth claim enough (reason.Pattern members inner) none = absurd none
 
 -- a dead state without a jam has a crowd, which is found
 pub crowd-again : (b : BoardView) (boxes : List ℕ) → ((members : List ℕ) → IsJam b boxes members → ⊥) → IsDead b boxes → (why : Reason)

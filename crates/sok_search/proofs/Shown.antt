@@ -1,5 +1,5 @@
 -- What a search shows whose states are done with, whole or not: they are known, and those that it left out agree with what is claimed.
-use Rattle.std.proofs.Common.{ℕ, ◌≡◌, ◌≤◌, ◌+◌, ◌⊎◌, inl, inr, List, Contains, Some, true, false, arith, slice_get}
+use Rattle.std.proofs.Common.{ℕ, ◌≡◌, ◌≤◌, ◌+◌, ◌⊎◌, inl, inr, Bool, List, Contains, Some, true, false, arith, slice_get}
 use Rattle.std.specs.Map.{values_of}
 use Rattle.sok_rules.specs.declared.cell.Dir.{Dir}
 use Rattle.sok_rules.specs.Play.{After, Position, pushes, start, step}
@@ -9,8 +9,6 @@ use Rattle.sok_rules.proofs.Man.{IsStanding-start}
 use Rattle.sok_rules.proofs.Walking.{Same-step, Same-sym, Same-trans}
 use Rattle.sok_board.specs.Area.{BoardView, IsAccepted}
 use Rattle.sok_region.specs.Regions.{IsPlaced}
-use Rattle.sok_bar.specs.declared.rest.Rest.TheVariants.{AtLeast}
-use Rattle.sok_bar.specs.Bars.{Barring}
 use Rattle.sok_bar.proofs.Patterns.{NeverFrom-Same}
 use Rattle.sok_bar.proofs.ReasonLaws.{reasons-bar}
 use Rattle.sok_alone.specs.Losses.{losses_of}
@@ -61,12 +59,11 @@ module _ (b : BoardView) (accepted : IsAccepted b) (claim : Claim) (key : Key) (
       let barred = reasons-bar b accepted key.least key.boxes why rest placed (bars key.least rest) in
       Agrees-deeper claim deep depth _ near (Agrees-barred b claim deep key.least key.boxes barred x same w solves)
 
-agree-open : (b : BoardView) → IsAccepted b → (claim : Claim) (key : Key) (depth deep : ℕ) (x : Position) → IsPlaced b key.boxes key.least
-    → Same b.rows (key_position b key) x → deep ≤ depth → CostsEnough b claim key.boxes deep → AllAgree b.rows claim depth x
-agree-open b accepted Unsolvable key depth deep x placed same near (n, bounded, none) w solves = absurd none
-agree-open b accepted (Pushes k) key depth deep x placed same near (n, ((u, v, priced), cost), enough) w solves =
-    let more = (reasons-bar b accepted key.least key.boxes (Barring.bound u v) (AtLeast n) placed priced).each x same w solves in
-    omega (arith, more, enough, near)
+agree-open : (b : BoardView) (whole : Bool) (claim : Claim) (key : Key) (depth deep : ℕ) (x : Position) → Same b.rows (key_position b key) x → deep ≤ depth
+    → CostsEnough b whole claim key.least key.boxes deep → AllAgree b.rows claim depth x
+agree-open b whole Unsolvable key depth deep x same near (n, bounded, none) w solves = absurd none
+agree-open b whole (Pushes k) key depth deep x same near (n, bounded, enough) w solves =
+    let more = bounded.needs x same w solves in omega (arith, more, enough, near)
 
 module _ (b : BoardView) (accepted : IsAccepted b) (limit : ℕ) (p : Progress) (search : IsSearch b limit p) (claim : Claim) (done : AreDone b claim p)
     (beside : (n : ℕ) → IsBeaten p.frame.aim.upper n → IsAtMost claim n) where
@@ -137,9 +134,9 @@ module _ (b : BoardView) (accepted : IsAccepted b) (limit : ℕ) (p : Progress) 
 
     -- by the standing of the state
     standing-known : (s : Standing) → Stands b p at.index at.key at.deep s
-        → IsDone b claim (losses_of p.frame.losses) at.key.least at.key.boxes at.deep s
+        → IsDone b p.frame.aim.whole claim (losses_of p.frame.losses) at.key.least at.key.boxes at.deep s
         → AllAgree b.rows claim depth x ⊎ (LeadsOn b.rows (IsKnown b claim p) depth x ⊎ Rearranges b.rows (IsKnown b claim p) depth x)
-    standing-known (Open bound) stands enough = inl (agree-open b accepted claim at.key depth at.deep x placed at.same at.near enough)
+    standing-known (Open bound) stands enough = inl (agree-open b p.frame.aim.whole claim at.key depth at.deep x at.same at.near enough)
     standing-known (Expanded bound) (prices, unsolved, followed) expanded = inr (expanded-known unsolved followed)
     standing-known Dead stands dead = inl (agree-dead b accepted claim at.key depth at.deep x placed at.same at.near dead)
     standing-known (Lost place) stands lost = inl (λ w solves. absurd

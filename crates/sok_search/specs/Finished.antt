@@ -1,5 +1,5 @@
 -- How each state of a search, finished or cut off, supports a claim, and its entry in the certificate.
-use Rattle.std.specs.Prelude.{ℕ, ◌≡◌, ◌<◌, ◌≤◌, ◌+◌, List, [], ◌∷◌, ◌++◌, Some, IsSomeAnd, All, length, slice_get}
+use Rattle.std.specs.Prelude.{ℕ, ◌≡◌, ◌<◌, ◌≤◌, ◌+◌, Bool, List, [], ◌∷◌, ◌++◌, Some, IsSomeAnd, All, length, slice_get}
 use Rattle.sok_board.specs.Area.{BoardView}
 use Rattle.sok_cert.specs.Claim.{Claim}
 use Rattle.sok_cert.specs.Claim.TheVariants.{Pushes, Unsolvable}
@@ -77,20 +77,20 @@ IsAtMost (Pushes k) n = k ≤ n
 IsAtMost Unsolvable n = ⊥
 
 -- depth and lower bound together are as many pushes as claimed
-abbrev pub CostsEnough : BoardView → Claim → List ℕ → ℕ → Type 0
-CostsEnough b claim boxes depth = (bound : ℕ) × HasBound b boxes bound × IsAtMost claim (depth + bound)
+abbrev pub CostsEnough : BoardView → Bool → Claim → ℕ → List ℕ → ℕ → Type 0
+CostsEnough b whole claim player boxes depth = (bound : ℕ) × HasBound b whole player boxes bound × IsAtMost claim (depth + bound)
 
 -- a state is done with: it is expanded, or it can be barred for the claim
-abbrev pub IsDone : BoardView → Claim → List Loss → ℕ → List ℕ → ℕ → Standing → Type 0
-IsDone b claim losses player boxes depth (standing.Open bound) = CostsEnough b claim boxes depth
-IsDone b claim losses player boxes depth (standing.Expanded bound) = Unit {0}
-IsDone b claim losses player boxes depth standing.Dead = IsDead b boxes
-IsDone b claim losses player boxes depth (standing.Lost place) = IsLostBy b player boxes losses place
+abbrev pub IsDone : BoardView → Bool → Claim → List Loss → ℕ → List ℕ → ℕ → Standing → Type 0
+IsDone b whole claim losses player boxes depth (standing.Open bound) = CostsEnough b whole claim player boxes depth
+IsDone b whole claim losses player boxes depth (standing.Expanded bound) = Unit {0}
+IsDone b whole claim losses player boxes depth standing.Dead = IsDead b boxes
+IsDone b whole claim losses player boxes depth (standing.Lost place) = IsLostBy b player boxes losses place
 
 -- each known state is done with
 abbrev pub AreDone : BoardView → Claim → Progress → Type 0
 AreDone b claim p = (i : ℕ) (key : Key) (depth : ℕ) (note : Note) → IsState p i key depth note
-    → IsDone b claim (losses_of p.frame.losses) key.least key.boxes depth note.standing
+    → IsDone b p.frame.aim.whole claim (losses_of p.frame.losses) key.least key.boxes depth note.standing
 
 -- the box at a place reaches no goal, even alone on the board
 abbrev pub IsStuckAt : BoardView → List ℕ → ℕ → Type 0

@@ -12,12 +12,18 @@ use Rattle.sok_state.specs.declared.scene.Scene.{Scene}
 use Rattle.sok_state.specs.Keys.{IsKey}
 use Rattle.sok_state.specs.Pushes.{IsLegal, IsOpened}
 use Rattle.sok_corral.specs.Fencing.{IsFenceScratch}
+use Rattle.sok_lift.specs.Numbers.{AreLifts, LiftTable}
 use Rattle.sok_search.specs.declared.expanding.Scratch.{Scratch}
+use Rattle.sok_search.specs.declared.push_scratch.PushScratch.{PushScratch}
 
--- a matching for a board; if `matched`, it is that of these boxes
-pub record IsPushScratch (b : BoardView) (boxes : List ℕ) (matching : KeptMatching) (matched : Bool) : Type 0 where
+-- a matching for a board, which is that of these boxes if `matched`, and the lifts of the board
+pub record ServesPushes (b : BoardView) (boxes : List ℕ) (matching : KeptMatching) (matched : Bool) (lifts : LiftTable) : Type 0 where
   pub serves : Serves b matching
   pub holds : matched ≡ true → Holds b boxes matching
+  pub are_lifts : AreLifts b lifts
+
+abbrev pub IsPushScratch : BoardView → List ℕ → PushScratch → Type 0
+IsPushScratch b boxes scratch = ServesPushes b boxes scratch.matching scratch.matched scratch.lifts
 
 -- the last expanded state: it has few boxes, is laid out, and its pushes are legal
 pub record IsLast (b : BoardView) (scene : Scene) (pushes : List Push) (last : Key) : Type 0 where
@@ -26,9 +32,10 @@ pub record IsLast (b : BoardView) (scene : Scene) (pushes : List Push) (last : K
   pub opened : IsOpened b last scene
   pub legal : All (IsLegal b last) pushes
 
--- buffers for a board: a matching, and boxes that are laid out, those of the last expanded state if there was one; and room to look for corrals
+-- buffers for a board: a matching, its lifts, and boxes that are laid out, those of the last expanded state if there was one; and room to look for corrals
 pub record IsReady (b : BoardView) (scratch : Scratch) : Type 0 where
   pub serves : Serves b scratch.push_scratch.matching
+  pub lifts : AreLifts b scratch.push_scratch.lifts
   pub boxes : List ℕ
   pub laid : IsLaidOut b boxes scratch.push_scratch.scene.layout
   pub fences : IsFenceScratch b scratch.fences

@@ -1,8 +1,9 @@
 -- The invariant of the search: which states are known, how each was reached, and why its standing is right.
-use Rattle.std.specs.Prelude.{ℕ, ◌≡◌, ◌<◌, ◌≤◌, ◌+◌, ◌⊎◌, false, Bool, List, Option, Some, None, IfSome, IsSomeAnd, Contains, length, slice_get, ⊤}
+use Rattle.std.specs.Prelude.{ℕ, ◌≡◌, ◌<◌, ◌≤◌, ◌+◌, ◌⊎◌, false, true, Bool, List, Option, Some, None, IfSome, IsSomeAnd, Contains, length, slice_get, ⊤}
 use Rattle.std.specs.Map.{values_of}
 use Rattle.sok_rules.specs.declared.cell.Dir.{Dir}
-use Rattle.sok_rules.specs.Play.{Position, AllOnGoals, NeverFrom, SolvesFrom, pushes, start}
+use Rattle.sok_rules.specs.Play.{Position, AllOnGoals, AtLeastFrom, NeverFrom, SolvesFrom, pushes, start}
+use Rattle.sok_rules.specs.States.{Same}
 use Rattle.sok_board.specs.Area.{BoardView, position_of, boxes_of}
 use Rattle.sok_price.specs.Matched.{TellsLeast}
 use Rattle.sok_bar.specs.declared.rest.Rest.{Rest}
@@ -68,9 +69,21 @@ IsCome b p key depth (Some origin) = IsFrom b p key depth origin
 abbrev pub IsSolved : BoardView → Key → Type 0
 IsSolved b key = AllOnGoals b.rows (position_of b key.least key.boxes)
 
--- a lower bound of the pushes, wherever the player stands: the cost of an assignment of boxes to goals, as dual prices show
-abbrev pub HasBound : BoardView → List ℕ → ℕ → Type 0
-HasBound b boxes n = TellsLeast b boxes (Some n)
+-- from no position of a state do fewer pushes solve
+abbrev pub NeedsPushes : BoardView → ℕ → List ℕ → ℕ → Type 0
+NeedsPushes b player boxes n = (x : Position) → Same b.rows (position_of b player boxes) x → AtLeastFrom b.rows x n
+
+-- the cost of an assignment of boxes to goals, as dual prices show
+abbrev pub HasPrice : BoardView → List ℕ → ℕ → Type 0
+HasPrice b boxes n = TellsLeast b boxes (Some n)
+
+-- a lower bound of the pushes from a state, no less than the cost of an assignment; it is this cost if every state is kept
+pub record HasBound (b : BoardView) (whole : Bool) (player : ℕ) (boxes : List ℕ) (n : ℕ) : Type 0 where
+  pub cost : ℕ
+  pub price : HasPrice b boxes cost
+  pub no_less : cost ≤ n
+  pub is_price : whole ≡ true → n ≡ cost
+  pub needs : NeedsPushes b player boxes n
 
 -- a deadlock, wherever the player stands: a reason bars these boxes, whatever is claimed
 abbrev pub IsDead : BoardView → List ℕ → Type 0
@@ -129,9 +142,9 @@ IsFollowedUp b p key depth =
 
 -- why the standing of a state is right
 abbrev pub Stands : BoardView → Progress → ℕ → Key → ℕ → Standing → Type 0
-Stands b p i key depth (Open bound) = HasBound b key.boxes bound × (Contains p.queue i ⊎ IsBeaten p.best (depth + bound))
+Stands b p i key depth (Open bound) = HasBound b p.frame.aim.whole key.least key.boxes bound × (Contains p.queue i ⊎ IsBeaten p.best (depth + bound))
 Stands b p i key depth (Expanded bound) =
-    HasBound b key.boxes bound × (IsSolved b key → ⊥) × IsFollowedUp b p key depth
+    HasBound b p.frame.aim.whole key.least key.boxes bound × (IsSolved b key → ⊥) × IsFollowedUp b p key depth
 Stands b p i key depth Dead = IsDead b key.boxes
 Stands b p i key depth (Lost place) = IsLostBy b key.least key.boxes (losses_of p.frame.losses) place
 

@@ -1,5 +1,5 @@
 -- What a step of the search does: it adds a state, lowers the depth of one, or follows a push.
-use Rattle.std.specs.Prelude.{ℕ, ◌≡◌, ◌<◌, ◌≤◌, ◌+◌, ◌-◌, ◌*◌, ◌⊎◌, ◌↔◌, List, [], ◌∷◌, ◌++◌, Option, Some, MatchOption, Contains, length, slice_get, slice_set, sum_by}
+use Rattle.std.specs.Prelude.{ℕ, ◌≡◌, ◌<◌, ◌≤◌, ◌+◌, ◌-◌, ◌*◌, ◌⊎◌, ◌↔◌, Bool, true, List, [], ◌∷◌, ◌++◌, Option, Some, MatchOption, Contains, length, slice_get, slice_set, sum_by}
 use Rattle.std.specs.Map.{keys_of, values_of}
 use Rattle.sok_board.specs.Area.{BoardView}
 use Rattle.sok_state.specs.declared.key.Key.{Key}
@@ -8,11 +8,13 @@ use Rattle.sok_state.specs.Tables.{Entries, IsAt}
 use Rattle.sok_alone.specs.declared.losses.Loss.{Loss}
 use Rattle.sok_alone.specs.declared.losses.Losses.{Losses}
 use Rattle.sok_alone.specs.Losses.{IsLostBy, losses_of}
+use Rattle.sok_lift.specs.Lifts.{HasLifts}
+use Rattle.sok_lift.specs.Numbers.{LiftTable, lift_in}
 use Rattle.sok_search.specs.declared.note.Note.{Note}
 use Rattle.sok_search.specs.declared.note.Origin.{Origin}
 use Rattle.sok_search.specs.declared.note.Standing.{Standing}
 use Rattle.sok_search.specs.declared.note.Standing.TheVariants.{Open, Expanded, Dead, Lost}
-use Rattle.sok_search.specs.Searches.{Frame, Progress, HasBound, IsDead, IsMet, IsSearch, IsState}
+use Rattle.sok_search.specs.Searches.{Frame, Progress, HasBound, HasPrice, IsDead, IsMet, IsSearch, IsState}
 
 -- each state keeps its place, and its depth does not grow
 pub record Grows (old new : Entries) : Type 0 where
@@ -100,16 +102,37 @@ holding index p = record p { queue = index ∷ p.queue }
 abbrev pub done : Progress → List Note → Option ℕ → Progress
 done p notes best = record { frame = p.frame; table = p.table; notes = notes; queue = p.queue; best = best }
 
--- the standing of a new state, given by player and boxes, is right by the known losses
-abbrev pub IsJudged : BoardView → List Loss → ℕ → List ℕ → Standing → Type 0
-IsJudged b losses player boxes (Open bound) = HasBound b boxes bound
-IsJudged b losses player boxes (Expanded bound) = ⊥
-IsJudged b losses player boxes Dead = IsDead b boxes
-IsJudged b losses player boxes (Lost place) = IsLostBy b player boxes losses place
+-- the standing of a new state, given by player and boxes, is right by the known losses, and its bound, if it is open, is such a number
+abbrev pub IsJudged : (ℕ → Type 0) → BoardView → List Loss → ℕ → List ℕ → Standing → Type 0
+IsJudged Bounds b losses player boxes (Open bound) = Bounds bound
+IsJudged Bounds b losses player boxes (Expanded bound) = ⊥
+IsJudged Bounds b losses player boxes Dead = IsDead b boxes
+IsJudged Bounds b losses player boxes (Lost place) = IsLostBy b player boxes losses place
 
--- by the losses of a frame
+-- and its bound is the cost of an assignment
+abbrev pub IsPriced : BoardView → List Loss → ℕ → List ℕ → Standing → Type 0
+IsPriced b losses player boxes = IsJudged (HasPrice b boxes) b losses player boxes
+
+-- and its bound is one of the state, by which every state is kept or not
+abbrev pub IsBoundedAs : BoardView → Bool → List Loss → ℕ → List ℕ → Standing → Type 0
+IsBoundedAs b whole losses player boxes = IsJudged (HasBound b whole player boxes) b losses player boxes
+
+-- the same, in a search with this frame
 abbrev pub IsJudgedIn : BoardView → Frame → Key → Standing → Type 0
-IsJudgedIn b frame key standing = IsJudged b (losses_of frame.losses) key.least key.boxes standing
+IsJudgedIn b frame key standing = IsBoundedAs b frame.aim.whole (losses_of frame.losses) key.least key.boxes standing
+
+-- a bound is raised by lifts of pairs of the boxes, unless every state is kept
+pub record IsRaisedTo (t : LiftTable) (whole : Bool) (player : ℕ) (boxes : List ℕ) (old new : ℕ) : Type 0 where
+  pub more : ℕ
+  pub lifts : HasLifts (lift_in t) player boxes more
+  pub no_less : old ≤ new
+  pub no_more : new ≤ old + more
+  pub same : whole ≡ true → new ≡ old
+
+-- so it is of an open state, and no other standing changes
+abbrev pub IsRaised : LiftTable → Bool → ℕ → List ℕ → Standing → Standing → Type 0
+IsRaised t whole player boxes (Open bound) new = (n : ℕ) × (new ≡ Open n) × IsRaisedTo t whole player boxes bound n
+IsRaised t whole player boxes old new = new ≡ old
 
 -- the work that remains, by which the search ends: room in the table, depths that can be lowered, the open list
 abbrev pub work : ℕ → Progress → ℕ

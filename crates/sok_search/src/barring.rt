@@ -1,6 +1,6 @@
 //! The reasons of a certificate, computed again from the boxes of a state.
 
-ghost use Rattle.std.specs.Prelude.{ℕ, ◌<◌, ◌↔◌, IfOk, IfSome, IsTrue, All, length};
+ghost use Rattle.std.specs.Prelude.{ℕ, ◌<◌, ◌↔◌, IfOk, IfSome, IsTrue, All, length, true};
 ghost use Rattle.sok_alone.specs.Losses.{IsLostBy, losses_of};
 ghost use Rattle.sok_board.specs.Area.{BoardView};
 ghost use Rattle.sok_price.specs.Matched.{Serves};
@@ -40,7 +40,7 @@ pub(crate) fn reason_of(
 ) -> Result<Reason, Memory>
     requires serves { Serves setting.now.board.now matching.old }
     requires exist { All (λ square. square < length setting.now.board.now.area) boxes.now }
-    requires finished { IsDone setting.now.board.now claim
+    requires finished { IsDone setting.now.board.now true claim
         (losses_of losses.now) player boxes.now depth
         standing }
     ensures serves { Serves setting.now.board.now matching.new }
@@ -68,7 +68,7 @@ fn open_reason(
 ) -> Result<Reason, Memory>
     requires serves { Serves board.now matching.old }
     requires exist { All (λ square. square < length board.now.area) boxes.now }
-    requires finished { CostsEnough board.now claim boxes.now depth }
+    requires finished { (player : ℕ) × CostsEnough board.now true claim player boxes.now depth }
     ensures serves { Serves board.now matching.new }
     ensures bars { IfOk result (λ why. (player : ℕ)
         → ReasonBars board.now player boxes.now why (rest_of claim depth)) }

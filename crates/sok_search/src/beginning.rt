@@ -1,6 +1,7 @@
 //! The start of a search.
 
 ghost use Rattle.std.specs.Prelude.{ℕ, ◌≡◌, ◌<◌, IfOk, OnOk};
+ghost use Rattle.sok_board.specs.Area.{IsAccepted};
 ghost use Rattle.sok_search.specs.Searches.{IsSearch};
 ghost use Rattle.sok_search.specs.Views.{IsEmpty, progress_of};
 
@@ -38,6 +39,7 @@ pub(crate) fn enter_start(
     setting: &Setting<'_>,
     search: &mut Search,
 ) -> Result<(), Memory>
+    requires accepted { IsAccepted setting.now.board.now }
     requires empty { IsEmpty setting.now.board.now search.old }
     ensures search { (limit : ℕ) → 0 < limit
         → OnOk result (IsSearch setting.now.board.now limit (progress_of search.new)) }

@@ -1,6 +1,6 @@
 //! The certificate of a search, each of whose states is expanded or barred.
 
-ghost use Rattle.std.specs.Prelude.{◌≡◌, ◌<◌, [], IfOk, OnOk, length};
+ghost use Rattle.std.specs.Prelude.{◌≡◌, ◌<◌, [], IfOk, OnOk, length, true};
 ghost use Rattle.sok_board.specs.Area.{IsAccepted, BoardView};
 ghost use Rattle.sok_price.specs.Matched.{Serves};
 ghost use Rattle.sok_search.specs.Finished.{AreDone, AreTaken, TakesEntry};
@@ -29,6 +29,7 @@ pub(crate) fn certify<C: Entries>(
 ) -> Result<(), Memory>
     requires accepted { IsAccepted setting.now.board.now }
     requires search { IsSmallSearch setting.now.board.now (progress_of search.now) }
+    requires whole { search.now.aim.whole ≡ true }
     requires done { AreDone setting.now.board.now claim (progress_of search.now) }
     requires none { C.took [] entries.old }
     ensures { OnOk result (AreTaken (λ taken. C.took taken entries.new) setting.now.board.now claim
@@ -68,6 +69,7 @@ fn take_entry<C: Entries>(
     requires accepted { IsAccepted setting.now.board.now }
     requires serves { Serves setting.now.board.now matching.old }
     requires search { IsSmallSearch setting.now.board.now (progress_of search.now) }
+    requires whole { search.now.aim.whole ≡ true }
     requires done { AreDone setting.now.board.now claim (progress_of search.now) }
     requires within { index < length search.now.table.entries }
     ensures serves { OnOk result (Serves setting.now.board.now matching.new) }

@@ -22,6 +22,7 @@ use sok_board::area::Sq;
 use sok_board::board::Board;
 use sok_corral::fencing::FenceScratch;
 use sok_distance::setting::Setting;
+use sok_lift::lifts::Lifts;
 use sok_price::matching::Matching;
 use sok_rules::fault::Memory;
 use sok_state::key::Key;
@@ -40,17 +41,24 @@ pub(crate) struct Scratch {
     pub(crate) push_scratch: PushScratch,
     pub(crate) fences: FenceScratch,
     pub(crate) squares: Vec<Sq>,
+    /// Whether the lifts are yet to be made.
+    unlifted: bool,
 }
 
+/// Lifts are made once so many states are known. A smaller search is over before they are.
+const LIFTED: usize = 1_000;
+
 impl Scratch {
-    /// Returns buffers for the states of a board.
-    pub(crate) fn new(alloc: Global, setting: &Setting<'_>) -> Result<Scratch, Memory>
+    /// Returns buffers for the states of a board. If every state is kept (`whole`), no lifts are made.
+    pub(crate) fn new(alloc: Global, setting: &Setting<'_>, whole: bool) -> Result<Scratch, Memory>
         ensures { IfOk result (IsReady setting.now.board.now) }
     {
         let push_scratch = PushScratch {
             scene: Scene::new(alloc, setting.board),
             matching: Matching::new(alloc, setting)?,
             matched: false,
+            lifts: Lifts::none(alloc),
+            free: Vec::new(alloc),
         };
         Ok(Scratch {
             last: None,
@@ -59,7 +67,25 @@ impl Scratch {
             push_scratch,
             fences: FenceScratch::new(alloc, setting.board),
             squares: Vec::new(alloc),
+            unlifted: !whole,
         })
+    }
+
+    /// Makes the lifts of the board once enough states are known.
+    fn make_lifts(
+        &mut self,
+        alloc: Global,
+        setting: &Setting<'_>,
+        known: usize,
+    ) -> Result<(), Memory>
+        requires { IsReady setting.now.board.now self.old }
+        ensures { OnOk result (IsReady setting.now.board.now self.new) }
+    {
+        if self.unlifted && known >= LIFTED {
+            self.push_scratch.lifts = Lifts::new(alloc, setting)?;
+            self.unlifted = false;
+        }
+        Ok(())
     }
 
     /// Loads the state `key` into the scene and lists its legal pushes. If it is a successor of the last
@@ -78,6 +104,7 @@ impl Scratch {
         requires ready { IsReady board.now self.old }
         ensures serves { OnOk result (Serves board.now self.new.push_scratch.matching) }
         ensures matched { self.new.push_scratch.matched ≡ self.old.push_scratch.matched }
+        ensures lifts { self.new.push_scratch.lifts ≡ self.old.push_scratch.lifts }
         ensures fences { self.new.fences ≡ self.old.fences }
         ensures last { OnOk result (self.new.last ≡ Some key.now) }
         ensures opened { OnOk result (IsOpened board.now key.now self.new.push_scratch.scene) }
@@ -132,6 +159,7 @@ impl Scratch {
         requires ready { IsReady board.now self.old }
         ensures matching { self.new.push_scratch.matching ≡ self.old.push_scratch.matching }
         ensures matched { self.new.push_scratch.matched ≡ self.old.push_scratch.matched }
+        ensures lifts { self.new.push_scratch.lifts ≡ self.old.push_scratch.lifts }
         ensures fences { self.new.fences ≡ self.old.fences }
         ensures laid { OnOk result
             ((boxes : List ℕ) × IsLaidOut board.now boxes self.new.push_scratch.scene.layout) }
@@ -180,12 +208,11 @@ fn follow(
     pushes: &[Push],
 ) -> Result<(), Stop>
     requires state { HoldsState setting.now.board.now limit index key.now depth search.old }
-    requires push_scratch { IsPushScratch setting.now.board.now key.now.boxes push_scratch.old.matching
-        push_scratch.old.matched }
+    requires push_scratch { IsPushScratch setting.now.board.now key.now.boxes push_scratch.old }
     requires opened { IsOpened setting.now.board.now key.now push_scratch.old.scene }
     requires legal { All (IsLegal setting.now.board.now key.now) pushes.now }
     ensures push_scratch { OnOk result
-        (IsPushScratch setting.now.board.now key.now.boxes push_scratch.new.matching push_scratch.new.matched) }
+        (IsPushScratch setting.now.board.now key.now.boxes push_scratch.new) }
     ensures opened { OnOk result (IsOpened setting.now.board.now key.now push_scratch.new.scene) }
     ensures followed { OnOk result (HasFollowed setting.now.board.now limit
         (progress_of search.old) index key.now depth (Contains pushes.now)
@@ -229,6 +256,7 @@ pub(crate) fn expand(
     ensures cut { CutsOff setting.now.board.now limit search.old
         (holding index (progress_of search.new)) result }
 {
+    scratch.make_lifts(alloc, setting, search.table.len())?;
     scratch.push_scratch.matched = false;
     scratch.open(alloc, setting.board, index as u32, key, origin)?;
     scratch.narrow(setting, search.aim.whole, key)?;

@@ -3,7 +3,7 @@
 ghost use Rattle.std.specs.Prelude.{IfOk, OnOk};
 ghost use Rattle.sok_alone.specs.Losses.{KeepsLosses, losses_of};
 ghost use Rattle.sok_region.specs.Regions.{IsPlaced};
-ghost use Rattle.sok_search.specs.Steps.{IsJudged};
+ghost use Rattle.sok_search.specs.Steps.{IsPriced};
 
 use crate::note::Standing;
 use sok_alone::losses::Losses;
@@ -26,7 +26,7 @@ pub(crate) fn judge(
     requires losses { KeepsLosses setting.now.board.now losses.old }
     ensures losses { OnOk result (KeepsLosses setting.now.board.now losses.new) }
     ensures judged { IfOk result
-        (IsJudged setting.now.board.now (losses_of losses.new) key.now.least key.now.boxes) }
+        (IsPriced setting.now.board.now (losses_of losses.new) key.now.least key.now.boxes) }
 {
     if let Some(_jam) = find_jam(alloc, setting, &key.boxes)? {
         return Ok(Standing::Dead);

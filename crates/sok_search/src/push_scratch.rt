@@ -1,14 +1,15 @@
 //! The judgement of a new state.
 
-ghost use Rattle.std.specs.Prelude.{ℕ, List, ◌≡◌, ◌<◌, ◌↔◌, IfOk, IfSome, IsTrue, OnOk, All, length};
+ghost use Rattle.std.specs.Prelude.{ℕ, List, ◌≡◌, ◌<◌, ◌↔◌, IfOk, IfSome, IsTrue, OnOk, All, Contains, length};
+ghost use Rattle.std.specs.List.Sorted.{IsStrictlyIncreasing};
 ghost use Rattle.sok_alone.specs.declared.losses.Loss.{Loss};
 ghost use Rattle.sok_alone.specs.Losses.{IsLostBy};
 ghost use Rattle.sok_board.specs.Area.{IsAccepted};
 ghost use Rattle.sok_price.specs.Matched.{TellsLeast};
 ghost use Rattle.sok_bar.specs.Jam.{HasJamWith};
-ghost use Rattle.sok_board.specs.BoxSets.{put_in_order};
+ghost use Rattle.sok_board.specs.BoxSets.{IsMoved, put_in_order};
 ghost use Rattle.sok_region.specs.Layouts.{IsLaidOut};
-ghost use Rattle.sok_search.specs.Steps.{IsJudged};
+ghost use Rattle.sok_search.specs.Steps.{IsPriced, IsRaised};
 ghost use Rattle.sok_search.specs.PushScratches.{AreMoved, IsPushScratch};
 
 use crate::note::Standing;
@@ -17,26 +18,30 @@ use sok_board::area::Sq;
 use sok_board::board::Board;
 use sok_board::box_set::BoxSet;
 use sok_distance::setting::Setting;
+use sok_lift::lifts::Lifts;
+use sok_lift::raise::raise;
 use sok_price::matching::Matching;
 use sok_region::layout::Layout;
 use sok_rules::fault::Memory;
 use sok_state::scene::Scene;
 use std::alloc::Global;
 
-/// What the pushes of a state are tried with: the state in a scene, and a matching, which is brought to its
-/// boxes when the first lower bound is asked for.
+/// What the pushes of a state are tried with: the state in a scene; a matching, which is brought to its
+/// boxes when the first lower bound is asked for; the lifts of the board, and a buffer to add them up.
 #[derive(Drop)]
 pub(crate) struct PushScratch {
     pub(crate) scene: Scene,
     pub(crate) matching: Matching,
     pub(crate) matched: bool,
+    pub(crate) lifts: Lifts,
+    pub(crate) free: Vec<bool>,
 }
 
 /// Brings the matching to some boxes, unless they have a crowd.
 fn match_boxes(board: &Board, push_scratch: &mut PushScratch, boxes: &BoxSet)
-    requires push_scratch { IsPushScratch board.now boxes.now push_scratch.old.matching push_scratch.old.matched }
+    requires push_scratch { IsPushScratch board.now boxes.now push_scratch.old }
     requires exist { All (λ square. square < length board.now.area) boxes.now }
-    ensures push_scratch { IsPushScratch board.now boxes.now push_scratch.new.matching push_scratch.new.matched }
+    ensures push_scratch { IsPushScratch board.now boxes.now push_scratch.new }
     ensures scene { push_scratch.new.scene ≡ push_scratch.old.scene }
 {
     if push_scratch.matched {
@@ -58,10 +63,10 @@ fn bound_after(
     from: Sq,
     to: Sq,
 ) -> Result<Option<u32>, Memory>
-    requires push_scratch { IsPushScratch board.now before.now push_scratch.old.matching push_scratch.old.matched }
+    requires push_scratch { IsPushScratch board.now before.now push_scratch.old }
     requires moved { AreMoved board.now before.now from to (put_in_order from to before.now) }
     ensures push_scratch { OnOk result
-        (IsPushScratch board.now before.now push_scratch.new.matching push_scratch.new.matched) }
+        (IsPushScratch board.now before.now push_scratch.new) }
     ensures scene { push_scratch.new.scene ≡ push_scratch.old.scene }
     ensures least { IfOk result (TellsLeast board.now (put_in_order from to before.now)) }
 {
@@ -104,18 +109,18 @@ pub(crate) fn judge_after(
     lost: Option<u32>,
 ) -> Result<Standing, Memory>
     requires accepted { IsAccepted setting.now.board.now }
-    requires push_scratch { IsPushScratch setting.now.board.now before.now push_scratch.old.matching push_scratch.old.matched }
+    requires push_scratch { IsPushScratch setting.now.board.now before.now push_scratch.old }
     requires laid { IsLaidOut setting.now.board.now before.now push_scratch.old.scene.layout }
     requires moved { AreMoved setting.now.board.now before.now from to
         (put_in_order from to before.now) }
     ensures push_scratch { OnOk result
-        (IsPushScratch setting.now.board.now before.now push_scratch.new.matching push_scratch.new.matched) }
+        (IsPushScratch setting.now.board.now before.now push_scratch.new) }
     ensures laid { OnOk result (IsLaidOut setting.now.board.now before.now push_scratch.new.scene.layout) }
     ensures reached { push_scratch.new.scene.reached ≡ push_scratch.old.scene.reached }
     ensures judged { (losses : List Loss) (player : ℕ)
         → IfSome lost (IsLostBy setting.now.board.now player
         (put_in_order from to before.now) losses)
-        → IfOk result (IsJudged setting.now.board.now losses player
+        → IfOk result (IsPriced setting.now.board.now losses player
         (put_in_order from to before.now)) }
 {
     if setting.distances.stuck(to) {
@@ -130,5 +135,32 @@ pub(crate) fn judge_after(
     match bound_after(alloc, setting.board, push_scratch, before, from, to)? {
         Some(bound) => Ok(Standing::Open(bound)),
         None => Ok(Standing::Dead),
+    }
+}
+
+/// Raises the lower bound of an open state, in which the box at `to` was just pushed, by the lifts of its
+/// boxes. If every state is kept (`whole`), the bound stays, since dual prices have to show it.
+pub(crate) fn raise_after(
+    alloc: Global,
+    whole: bool,
+    lifts: &Lifts,
+    free: &mut Vec<bool>,
+    before: &BoxSet,
+    from: Sq,
+    to: Sq,
+    standing: Standing,
+) -> Result<Standing, Memory>
+    requires there { Contains before.now from }
+    requires free { Contains before.now to → ⊥ }
+    ensures { (after : List ℕ) → IsMoved before.now from to after → IsStrictlyIncreasing after
+        → IfOk result (IsRaised lifts.now whole from after standing) }
+{
+    match standing {
+        Standing::Open(bound) if !whole => {
+            let after = before.moved(alloc, from, to)?;
+            let more = raise(lifts, from, &after, free)?;
+            Ok(Standing::Open(bound.saturating_add(more)))
+        }
+        _ => Ok(standing),
     }
 }

@@ -12,12 +12,13 @@ ghost use Rattle.sok_search.specs.PushScratches.{IsPushScratch};
 ghost use Rattle.sok_search.specs.Views.{progress_of, CutsOff, HoldsState};
 
 use crate::note::{Note, Origin, Standing};
-use crate::push_scratch::{PushScratch, judge_after};
+use crate::push_scratch::{PushScratch, judge_after, raise_after};
 use crate::search::{Search, add, is_beaten, lower};
 use crate::stop::Stop;
 use sok_alone::losses::Losses;
 use sok_board::area::Sq;
 use sok_distance::setting::Setting;
+use sok_lift::raise::is_lost;
 use sok_rules::fault::Memory;
 use sok_state::key::Key;
 use sok_state::push::Push;
@@ -113,12 +114,11 @@ pub(crate) fn reach(
     push: Push,
 ) -> Result<(), Stop>
     requires state { HoldsState setting.now.board.now limit index key.now depth search.old }
-    requires push_scratch { IsPushScratch setting.now.board.now key.now.boxes push_scratch.old.matching
-        push_scratch.old.matched }
+    requires push_scratch { IsPushScratch setting.now.board.now key.now.boxes push_scratch.old }
     requires opened { IsOpened setting.now.board.now key.now push_scratch.old.scene }
     requires legal { IsLegal setting.now.board.now key.now push }
     ensures push_scratch { OnOk result
-        (IsPushScratch setting.now.board.now key.now.boxes push_scratch.new.matching push_scratch.new.matched) }
+        (IsPushScratch setting.now.board.now key.now.boxes push_scratch.new) }
     ensures opened { OnOk result (IsOpened setting.now.board.now key.now push_scratch.new.scene) }
     ensures pushed { OnOk result (IsPushed setting.now.board.now limit
         (holding index (progress_of search.old)) key.now depth push
@@ -128,6 +128,9 @@ pub(crate) fn reach(
 {
     let to = square_ahead(setting.board, push);
     if !search.aim.whole && setting.distances.stuck(to) {
+        return Ok(());
+    }
+    if !search.aim.whole && is_lost(&push_scratch.lifts, push.from, &key.boxes, push.from, to) {
         return Ok(());
     }
     let known = search.table.len();
@@ -167,15 +170,14 @@ fn arrive(
     lost: Option<u32>,
 ) -> Result<(), Stop>
     requires state { HoldsState setting.now.board.now limit index key.now depth search.old }
-    requires push_scratch { IsPushScratch setting.now.board.now key.now.boxes push_scratch.old.matching
-        push_scratch.old.matched }
+    requires push_scratch { IsPushScratch setting.now.board.now key.now.boxes push_scratch.old }
     requires opened { IsOpened setting.now.board.now key.now push_scratch.old.scene }
     requires legal { IsLegal setting.now.board.now key.now push }
     requires ahead { beside setting.now.board.now push.from push.dir ≡ Some to }
     requires lost { IfSome lost (IsLostBy setting.now.board.now push.from
         (put_in_order push.from to key.now.boxes) (losses_of search.old.losses)) }
     ensures push_scratch { OnOk result
-        (IsPushScratch setting.now.board.now key.now.boxes push_scratch.new.matching push_scratch.new.matched) }
+        (IsPushScratch setting.now.board.now key.now.boxes push_scratch.new) }
     ensures opened { OnOk result (IsOpened setting.now.board.now key.now push_scratch.new.scene) }
     ensures pushed { OnOk result (IsPushed setting.now.board.now limit
         (holding index (progress_of search.old)) key.now depth push
@@ -195,6 +197,16 @@ fn arrive(
         return Ok(());
     }
     let standing = judge_after(alloc, setting, push_scratch, &key.boxes, from, to, lost)?;
+    let standing = raise_after(
+        alloc,
+        search.aim.whole,
+        &push_scratch.lifts,
+        &mut push_scratch.free,
+        &key.boxes,
+        from,
+        to,
+        standing,
+    )?;
     if !search.aim.whole && is_spared(search.aim.upper, standing, deeper) {
         return Ok(());
     }

@@ -406,7 +406,7 @@ fn search_all(
     ensures cut { CutsOff setting.now.board.now limit search.old (progress_of search.new) result }
 {
     enter_start(alloc, setting, search)?;
-    let mut scratch = Scratch::new(alloc, setting)?;
+    let mut scratch = Scratch::new(alloc, setting, search.aim.whole)?;
     let ended = search_on(alloc, setting, limit, search, &mut scratch);
     // As one value: field by field takes five times as long to prove.
     drop(scratch);

@@ -9,6 +9,7 @@
 //! | `distances` | how far a box is from each goal, and where it is stuck |
 //! | `fences` | which pushes of a state are kept, with a fence and without one |
 //! | `jams` | frozen boxes as a reason, and which are found |
+//! | `lifts` | how many pushes pairs of boxes must waste, and which pairs are lost |
 //! | `matching` | a matching that is kept from one set of boxes to the next |
 //! | `pairs` | two or three boxes that can't be solved, even alone |
 //! | `positions` | positions, and whether a reason holds of one (no test) |
@@ -33,6 +34,8 @@ mod distances;
 mod fences;
 #[cfg(test)]
 mod jams;
+#[cfg(test)]
+mod lifts;
 #[cfg(test)]
 mod matching;
 #[cfg(test)]

@@ -65,9 +65,9 @@ fn two_boxes_alone(rt: HostRuntime) -> Result<(), Fail> {
 
 /// Boxes, one of them, the direction in which it is pushed, the square that it reaches, and whether
 /// it can't be solved from there with another box, or with two that are close, even alone.
-type PushCase = ([Sq; 3], Sq, Dir, Sq, bool);
+pub(crate) type PushCase = ([Sq; 3], Sq, Dir, Sq, bool);
 
-const PUSHES_OF_TWO: [PushCase; 6] = [
+pub(crate) const PUSHES_OF_TWO: [PushCase; 6] = [
     // two boxes that follow one another into the corridor
     ([7, 9, 12], 9, Dir::Right, 10, true),
     ([7, 10, 12], 10, Dir::Right, 11, true),

@@ -6,6 +6,8 @@ use Rattle.sok_search.specs.Searches.{Frame, Progress}
 use Rattle.sok_search.specs.Steps.{IsListed}
 use Rattle.sok_search.specs.Views.{progress_of}
 use Rattle.sok_search.proofs.Adding.{added-made, first-last}
+use Rattle.sok_alone.specs.Losses.{losses_of}
+use Rattle.sok_search.proofs.Bounding.{bounded-priced}
 use Rattle.sok_search.proofs.Opening.{begun, nothing}
 use Rattle.sok_search.proofs.beginning.enter_start.Goals as goal
 
@@ -35,7 +37,8 @@ returns-clause-search c = λ limit positive.
     on_ok_weaker c.add.result (λ listed. begun b limit frame positive empty.wide c.in_ok-standing.ensures.losses key note after
     (added-made (nothing frame) inserted table after key 0 c.in_ok-index.index note same last
     (subst (λ x. IsListed x c.in_ok-index.index note after) bare listed))
-    c.in_ok-key.ensures.of_board c.in_ok-key.ensures.key c.in_ok-key.ensures.as_many refl c.in_ok-standing.ensures.judged) c.add.ensures
+    c.in_ok-key.ensures.of_board c.in_ok-key.ensures.key c.in_ok-key.ensures.as_many refl (bounded-priced b c.requires.accepted key.least key.boxes c.in_ok-key.ensures.of_board.is.placed old.aim.whole
+    (losses_of c.judge.new.losses) c.in_ok-standing.standing c.in_ok-standing.ensures.judged)) c.add.ensures
 
 pub returns-clause-aim : goal.returns-clause-aim
 returns-clause-aim c = on_ok_weaker c.add.result (λ listed. ap (λ (f : Frame). f.aim) listed.frame) c.add.ensures

@@ -1,5 +1,7 @@
-use Rattle.std.proofs.Common.{◌∙◌, refl}
+use Rattle.std.proofs.Common.{◌∙◌, refl, subst, Bool}
 use Rattle.sok_cert.specs.Text.{entry_from}
+use Rattle.sok_alone.specs.Losses.{losses_of}
+use Rattle.sok_search.specs.Finished.{IsDone}
 use Rattle.sok_search.specs.Views.{progress_of}
 use Rattle.sok_search.proofs.Certified.{entry-at, entry-fits}
 use Rattle.sok_search.proofs.certifying.take_entry.Goals as goal
@@ -12,7 +14,10 @@ reason_of-requires-clause-exist g c =
     (c.requires.search.1.noted c.args.index c.in_ok-key.key c.in_ok-key.depth c.in_ok-key.note c.in_ok-key.ensures).state.is.placed.boxes_exist
 
 pub reason_of-requires-clause-finished : goal.reason_of-requires-clause-finished
-reason_of-requires-clause-finished g c = c.requires.done c.args.index c.in_ok-key.key c.in_ok-key.depth c.in_ok-key.note c.in_ok-key.ensures
+reason_of-requires-clause-finished g c =
+    let key = c.in_ok-key.key in
+    subst (λ (whole : Bool). IsDone c.args.setting.now.board.now whole c.args.claim (losses_of c.args.search.now.losses) key.least key.boxes c.in_ok-key.depth
+    c.in_ok-key.note.standing) c.requires.whole (c.requires.done c.args.index key c.in_ok-key.depth c.in_ok-key.note c.in_ok-key.ensures)
 
 pub returns-clause-takes : goal.returns-clause-takes
 returns-clause-takes g c =

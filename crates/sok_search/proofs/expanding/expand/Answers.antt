@@ -1,8 +1,9 @@
-use Rattle.std.proofs.Common.{◌∙◌, sym, subst, true≢false, All, Contains, IfSome, List, Option, ℕ}
+use Rattle.std.proofs.Common.{◌∙◌, sym, subst, true≢false, IfSome, List, Option}
 use Rattle.std.proofs.lemmas.Result.{on_ok_weaker}
 use Rattle.sok_state.specs.declared.key.Key.{Key}
 use Rattle.sok_state.specs.declared.push.Push.{Push}
-use Rattle.sok_state.specs.Pushes.{IsLegal, IsOpened}
+use Rattle.sok_state.specs.Pushes.{IsOpened}
+use Rattle.sok_lift.specs.Numbers.{AreLifts}
 use Rattle.sok_search.specs.declared.push_scratch.PushScratch.{PushScratch}
 use Rattle.sok_search.specs.Steps.{holding}
 use Rattle.sok_search.specs.PushScratches.{IsLast, IsPushScratch}
@@ -23,10 +24,11 @@ narrow-requires-clause-state c = taken-key c.args.setting.now.board.now c.args.l
 
 pub follow-requires-clause-push_scratch : goal.follow-requires-clause-push_scratch
 follow-requires-clause-push_scratch c =
-    subst (λ (p : PushScratch). IsPushScratch c.args.setting.now.board.now c.args.key.now.boxes p.matching p.matched) (sym c.in_ok-narrow.ensures.push_scratch)
+    subst (IsPushScratch c.args.setting.now.board.now c.args.key.now.boxes) (sym c.in_ok-narrow.ensures.push_scratch)
     (record {
       serves = c.in_ok-open.ensures.serves;
       holds = λ matched. absurd (true≢false (sym matched ∙ c.in_ok-open.ensures.matched));
+      are_lifts = subst (AreLifts c.args.setting.now.board.now) (sym c.in_ok-open.ensures.lifts) c.in_ok-make_lifts.ensures.lifts;
     })
 
 pub follow-requires-clause-opened : goal.follow-requires-clause-opened
@@ -39,6 +41,7 @@ returns-clause-ready c =
     (progress_of c.args.search.now) c.args.key.now c.args.depth c.requires.state.running.search c.requires.state.there c.requires.state.depth_is in
     both-ok c.follow.result (λ push_scratch opened. record {
       serves = push_scratch.serves;
+      lifts = push_scratch.are_lifts;
       boxes = c.args.key.now.boxes;
       laid = opened.laid;
       fences = c.in_ok-narrow.ensures.fences;

@@ -10,16 +10,17 @@ use Rattle.sok_state.specs.Tables.{Enters, Entries, GoesLast, IsAt, Tabled}
 use Rattle.sok_state.proofs.Stepped.{ComesNext, comes-next, next_of}
 use Rattle.sok_alone.specs.Losses.{losses_of}
 use Rattle.sok_search.specs.declared.search.Search.{Search}
-use Rattle.sok_search.specs.Steps.{IsJudged, holding}
+use Rattle.sok_search.specs.PushScratches.{AreMoved}
+use Rattle.sok_search.specs.Steps.{IsBoundedAs, holding}
 use Rattle.sok_search.specs.Views.{progress_of}
 use Rattle.sok_search.proofs.Adding.{added-made, note-within, taken, taken-deep, taken-pushable}
-use Rattle.sok_search.proofs.Asking.{lost-next}
+use Rattle.sok_search.proofs.Asking.{raised-next}
 use Rattle.sok_search.proofs.Filling.{full-more}
 use Rattle.sok_search.proofs.LeavingOut.{pushed-left_out, spared-no_fewer}
 use Rattle.sok_search.proofs.Moving.{moved-next}
 use Rattle.sok_search.proofs.Pushing.{pushed-added, pushed-known}
 use Rattle.sok_search.proofs.reaching.arrive.Goals as goal
-use Rattle.sok_search.proofs.reaching.arrive.Goals.{After-step-least, In-Some, In_ok-at, In_ok-standing}
+use Rattle.sok_search.proofs.reaching.arrive.Goals.{After-step-least, In-Some, In_ok-at, In_ok-standing-2}
 
 pub step-least-requires-clause-pushable : goal.step-least-requires-clause-pushable
 step-least-requires-clause-pushable c =
@@ -92,37 +93,53 @@ returns-in-Some-clause-pushed c =
     one.note one.note_is c.args.push c.requires.legal next comes.came.exact comes.came.of_board comes.came.as_many c.in-Some.at p.frame p.table refl
     (record { there = there_in ((goal.at.returns-in-Some-clause-pushed c).In-Some); unchanged = refl }) (progress_of c.approach.new.search) c.in_ok-approach.ensures
 
-pub judge_after-requires-clause-moved : goal.judge_after-requires-clause-moved
-judge_after-requires-clause-moved c =
-    let here = (goal.at.judge_after-requires-clause-moved c).After-step-least in
-    let can = can_in here in
-    let comes = comes_in here in
+-- the boxes after the push
+moved_in : (c : After-step-least) → AreMoved c.args.setting.now.board.now c.args.key.now.boxes c.args.push.from c.args.to
+    (put_in_order c.args.push.from c.args.to c.args.key.now.boxes)
+moved_in c =
+    let can = can_in c in
+    let comes = comes_in c in
     moved-next c.args.setting.now.board.now c.requires.state.running.accepted c.args.key.now _ c.args.push c.args.to can.state can.few comes.came.of_board c.requires.legal
     comes.came.exact c.requires.ahead
 
+pub judge_after-requires-clause-moved : goal.judge_after-requires-clause-moved
+judge_after-requires-clause-moved c = moved_in ((goal.at.judge_after-requires-clause-moved c).After-step-least)
+
+pub raise_after-requires-clause-there : goal.raise_after-requires-clause-there
+raise_after-requires-clause-there c = (moved_in ((goal.at.raise_after-requires-clause-there c).After-step-least)).there
+
+pub raise_after-requires-clause-free : goal.raise_after-requires-clause-free
+raise_after-requires-clause-free c = (moved_in ((goal.at.raise_after-requires-clause-free c).After-step-least)).free
+
 -- how it stands
-judged_in : (c : In_ok-standing) → IsJudged c.args.setting.now.board.now (losses_of c.args.search.now.losses) c.step-least.result
-    (put_in_order c.args.push.from c.args.to c.args.key.now.boxes) c.in_ok-standing.standing
+judged_in : (c : In_ok-standing-2) → IsBoundedAs c.args.setting.now.board.now c.args.search.now.aim.whole (losses_of c.args.search.now.losses) c.step-least.result
+    (put_in_order c.args.push.from c.args.to c.args.key.now.boxes) c.in_ok-standing-2.standing
 judged_in c =
-    let can = taken-pushable c.args.setting.now.board.now c.requires.state.running.accepted c.args.limit c.args.index (progress_of c.args.search.now)
-    c.args.key.now c.args.depth c.requires.state.running.search c.requires.state.there c.requires.state.depth_is c.args.push c.requires.legal
-    c.args.push_scratch.now.scene c.requires.opened in
-    let comes = comes-next c.args.setting.now.board.now c.requires.state.running.accepted c.args.key.now c.args.push c.args.to c.step-least.result
-    c.args.push_scratch.now.scene can c.requires.ahead c.step-least.ensures.next in
+    let b = c.args.setting.now.board.now in
+    let held = c.requires.state in
+    let key = c.args.key.now in
+    let after = put_in_order c.args.push.from c.args.to key.boxes in
+    let can = taken-pushable b held.running.accepted c.args.limit c.args.index (progress_of c.args.search.now) key c.args.depth held.running.search held.there
+    held.depth_is c.args.push c.requires.legal c.args.push_scratch.now.scene c.requires.opened in
+    let comes = comes-next b held.running.accepted key c.args.push c.args.to c.step-least.result c.args.push_scratch.now.scene can c.requires.ahead
+    c.step-least.ensures.next in
     let losses = losses_of c.args.search.now.losses in
-    c.in_ok-standing.ensures.judged losses c.step-least.result
-    (lost-next c.args.setting.now.board.now c.requires.state.running.accepted c.args.key.now c.args.push c.args.to c.args.push_scratch.now.scene can
-    c.requires.ahead c.step-least.result comes losses c.args.lost c.requires.lost)
+    let moved = moved-next b held.running.accepted key _ c.args.push c.args.to can.state can.few comes.came.of_board c.requires.legal comes.came.exact
+    c.requires.ahead in
+    raised-next b held.running.accepted key c.args.push c.args.to c.args.push_scratch.now.scene can c.requires.ahead c.step-least.result comes
+    c.judge_after.new.push_scratch.lifts c.in_ok-standing.ensures.push_scratch.are_lifts c.args.search.now.aim.whole losses c.in_ok-standing.standing
+    c.in_ok-standing-2.standing (c.in_ok-standing.ensures.judged losses c.args.push.from c.requires.lost)
+    (c.in_ok-standing-2.ensures after moved.moved moved.rising)
 
 -- the scene is open behind it
-opened_in : (c : In_ok-standing) → IsOpened c.args.setting.now.board.now c.args.key.now c.judge_after.new.push_scratch.scene
+opened_in : (c : In_ok-standing-2) → IsOpened c.args.setting.now.board.now c.args.key.now c.judge_after.new.push_scratch.scene
 opened_in c = record {
   laid = c.in_ok-standing.ensures.laid;
   reached = subst (Reaches c.args.setting.now.board.now c.args.key.now) (sym c.judge_after.ensures.reached) c.step-least.ensures.opened.reached;
 }
 
 pub returns-then-is_spared-clause-opened : goal.returns-then-is_spared-clause-opened
-returns-then-is_spared-clause-opened c = opened_in ((goal.at.returns-then-is_spared-clause-opened c).In_ok-standing)
+returns-then-is_spared-clause-opened c = opened_in ((goal.at.returns-then-is_spared-clause-opened c).In_ok-standing-2)
 
 pub returns-then-is_spared-clause-pushed : goal.returns-then-is_spared-clause-pushed
 returns-then-is_spared-clause-pushed c =
@@ -131,11 +148,11 @@ returns-then-is_spared-clause-pushed c =
     let p = progress_of c.args.search.now in
     let key = c.args.key.now in
     let comes = comes_in ((goal.at.returns-then-is_spared-clause-pushed c).After-step-least) in
-    let judged = judged_in ((goal.at.returns-then-is_spared-clause-pushed c).In_ok-standing) in
+    let judged = judged_in ((goal.at.returns-then-is_spared-clause-pushed c).In_ok-standing-2) in
     pushed-left_out b c.args.limit c.args.index p held.running.search key c.args.depth c.args.push (record {
       part = c.if-not-search.true;
       no_fewer = spared-no_fewer b held.running.accepted key (next_of key c.args.push.from c.args.to c.step-least.result) c.args.push comes.came.exact
-          comes.came.of_board (losses_of c.args.search.now.losses) c.in_ok-standing.standing judged p.frame.aim.upper c.args.depth
+          comes.came.of_board c.args.search.now.aim.whole (losses_of c.args.search.now.losses) c.in_ok-standing-2.standing judged p.frame.aim.upper c.args.depth
           (c.is_spared.ensures c.if-is_spared.true);
     })
 
@@ -187,7 +204,7 @@ add-requires c =
     omega (arith, at, room, count, c.ranges.limit.fits)
 
 pub returns-clause-opened : goal.returns-clause-opened
-returns-clause-opened c = opened_in ((goal.at.returns-clause-opened c).In_ok-standing)
+returns-clause-opened c = opened_in ((goal.at.returns-clause-opened c).In_ok-standing-2)
 
 -- the frame of a search with another table
 same_frame : (search : Search) (table : Tabled) → table.room ≡ search.table.room
@@ -209,6 +226,6 @@ returns-clause-pushed c =
     let count = c.len.ensures.count in
     pushed-added c.args.setting.now.board.now c.args.limit c.args.index p held.running.search c.args.key.now c.args.depth held.there held.depth_is
     one.note one.note_is c.args.push c.requires.legal next comes.came.exact comes.came.of_board comes.came.as_many last.absent
-    (omega (arith, room, count)) _ refl (judged_in ((goal.at.returns-clause-pushed c).In_ok-standing)) q
+    (omega (arith, room, count)) _ refl (judged_in ((goal.at.returns-clause-pushed c).In_ok-standing-2)) q
     (added-made p (record { room = table.room; aim = c.args.search.now.aim; losses = c.args.search.now.losses }) table.entries q next (c.args.depth + 1) at _
     (same_frame c.args.search.now table c.in_ok-at.ensures.room) last c.in_ok-add.ensures)

@@ -1,0 +1,4 @@
+pub mod Checked
+pub mod Lifts
+pub mod Numbers
+pub mod Pairs
