@@ -1,6 +1,7 @@
 """Reads a book of levels through the program, which checks every row of it."""
 import dataclasses
 import itertools
+import re
 import subprocess
 import unicodedata
 
@@ -49,20 +50,27 @@ def told(program, *words):
     return done.stdout
 
 
+def shown(title):
+    """The bytes of a title as the lines of `sok show` have them."""
+    return re.sub(rb"[\x00-\x1f\x7f]|\xc2[\x80-\x9f]", lambda control: b"\\x%02x" % control[0][-1], title)
+
+
 def level_of(line, block):
     """A level from its line of `sok show` and its block of `sok export --solutions`, which have to tell the same."""
     number, height, width, boxes, pushes, moves, verdict, *titles = line.split(b" ", 7)
-    head, lines = [b"; " + title for title in titles], block.split(b"\n")
+    lines = block.split(b"\n")
+    head = lines[:len(titles)]
     rows = list(itertools.takewhile(lambda row: not row.startswith((b"Solution: ", b"Unsolvable")), lines[len(head):]))
     notes = lines[len(head) + len(rows):]
     letters = notes[0].removeprefix(b"Solution: ") if notes and pushes != b"-" else None
     wanted = [b"Unsolvable"] if verdict == b"unsolvable" else []
     if letters is not None:
         wanted = [b"Solution: " + letters, b"Pushes: " + pushes + (b" optimal" if verdict == b"optimal" else b"")]
-    if lines[:len(head)] != head or notes != wanted or len(rows) != int(height) or moves != (b"-" if letters is None else b"%d" % len(letters)):
+    titled = [shown(note) for note in head] == [b"; " + title for title in titles]
+    if not titled or notes != wanted or len(rows) != int(height) or moves != (b"-" if letters is None else b"%d" % len(letters)):
         raise Refused(CHANGED)
     best = (None, None, None) if letters is None else (int(pushes), int(moves), letters.decode())
-    return Level(int(number), b"".join(titles), tuple(row.decode() for row in rows), int(height), int(width), int(boxes), *best, verdict.decode())
+    return Level(int(number), b"".join(head)[2:], tuple(row.decode() for row in rows), int(height), int(width), int(boxes), *best, verdict.decode())
 
 
 def read(program, path):

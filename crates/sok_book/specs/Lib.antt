@@ -2,6 +2,7 @@
 pub mod BookTexts
 pub mod Books
 pub mod Commands
+pub mod Escapes
 pub mod Exported
 pub mod Faults
 pub mod Kept

@@ -1,5 +1,5 @@
 -- A line for each level of a book.
-use Rattle.std.specs.Prelude.{ℕ, ◌+◌, List, [], ◌∷◌, ◌++◌, Bool, ◌||◌, ◌==◌, Option, Some, None, codes, count_by, fold, length, max}
+use Rattle.std.specs.Prelude.{ℕ, ◌+◌, List, [], ◌∷◌, ◌++◌, Bool, ◌||◌, ◌==◌, Option, Some, None, codes, count_by, fold, length, max, option_map}
 use Rattle.std.specs.Fmt.{decimal}
 use Rattle.std.specs.Str.Lines.{lines}
 use Rattle.sok_text.specs.Canonical.{level_text}
@@ -8,6 +8,7 @@ use Rattle.sok_text.specs.Lines.{is_newline}
 use Rattle.sok_book.specs.declared.record.Verdict.{Verdict}
 use Rattle.sok_book.specs.declared.record.Verdict.TheVariants.{Untested, Optimal, Unsolvable}
 use Rattle.sok_book.specs.Books.{Page, Solution}
+use Rattle.sok_book.specs.Escapes.{escaped}
 
 -- how many rows the text of a level has
 abbrev pub row_count : List ℕ → ℕ
@@ -44,10 +45,11 @@ abbrev pub title_words : Option (List ℕ) → List ℕ
 title_words None = []
 title_words (Some title) = codes " " ++ title
 
--- the line of the n-th level
+-- the line of the n-th level; the control characters of its title are seen
 abbrev pub overview_line : ℕ → Page → List ℕ
 overview_line n page =
-    size_words n (level_text page.level) ++ (best_words page.best ++ (verdict_word page.verdict ++ (title_words page.title ++ codes "\n")))
+    size_words n (level_text page.level)
+    ++ (best_words page.best ++ (verdict_word page.verdict ++ (title_words (option_map escaped page.title) ++ codes "\n")))
 
 -- the lines of these levels, of which the first has this number
 abbrev pub overview_from : ℕ → List Page → List ℕ

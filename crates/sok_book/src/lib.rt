@@ -3,6 +3,7 @@
 //!
 //! | Module | What it holds |
 //! |---|---|
+//! | `escape` | a text whose control characters are seen |
 //! | `export` | the levels of a book as a collection |
 //! | `fault` | why a command is refused |
 //! | `law` | what holds of every book that commands made |
@@ -17,6 +18,7 @@
 //! | `writing` | the texts of a level and of a solution |
 #![tactic(auto)]
 
+pub mod escape;
 pub mod export;
 pub mod fault;
 pub mod law;

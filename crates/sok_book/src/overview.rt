@@ -2,11 +2,13 @@
 
 ghost use Rattle.std.specs.Prelude.{◌≡◌, ◌++◌, IfOk, OnOk, codes, option_map, string_bytes};
 ghost use Rattle.std.specs.Fmt.{decimal};
+ghost use Rattle.sok_book.specs.Escapes.{escaped};
 ghost use Rattle.sok_book.specs.Overview.{best_words, box_count, column_count, overview_from};
 ghost use Rattle.sok_book.specs.Overview.{overview_line, row_count, size_words, title_words};
 ghost use Rattle.sok_book.specs.Overview.{verdict_word};
 ghost use Rattle.sok_book.specs.Records.{pages_of};
 
+use crate::escape::push_escaped;
 use crate::record::{Best, Record, Verdict};
 use crate::writing::text_of;
 use sok_rules::fault::Memory;
@@ -14,8 +16,8 @@ use std::alloc::{AllocError, Global};
 
 /// Returns a line for each level, in this order: its number, counted from 1; how many rows, columns
 /// and boxes it has; the pushes and the moves of its best solution, or `-` twice if there is none;
-/// its verdict; and its title, if it has one. The columns are those of the longest row. Boxes on
-/// goals are counted, too.
+/// its verdict; and its title, if it has one, with its control characters as `escape` shows them.
+/// The columns are those of the longest row. Boxes on goals are counted, too.
 pub fn overview_text(alloc: Global, records: &[Record]) -> Result<Vec<u8>, Memory>
     ensures { IfOk result (λ text. text.items ≡ overview_from 1 (pages_of records.now)) }
 {
@@ -115,14 +117,13 @@ fn verdict_word(verdict: Verdict) -> &'static str
 
 /// Appends a space and the title, if there is one.
 fn push_title(text: &mut Vec<u8>, title: &Option<Vec<u8>>) -> Result<(), AllocError>
-    ensures { OnOk result (text.new.items
-        ≡ text.old.items ++ title_words (option_map (λ title. title.items) title.now)) }
+    ensures { OnOk result (text.new.items ≡ text.old.items
+        ++ title_words (option_map escaped (option_map (λ title. title.items) title.now))) }
 {
     match title {
         Some(title) => {
             text.push(b' ')?;
-            text.extend_from_slice(title.as_slice())?;
-            Ok(())
+            push_escaped(text, title.as_slice())
         }
         None => Ok(()),
     }

@@ -101,6 +101,33 @@ fn records_are_shown_exported_and_told(rt: HostRuntime) -> Result<(), Fail> {
     assert_texts(&rt, rt.alloc(), &records)
 }
 
+/// Returns whether the overview of a level with this title is this line.
+fn is_titled(alloc: Global, title: &[u8], line: &[u8]) -> Result<bool, Fail> {
+    let mut kept = untitled(alloc)?;
+    kept.title = Some(title.to_vec(alloc)?);
+    let mut records = Vec::new(alloc);
+    records.push(kept)?;
+    Ok(overview_text(alloc, &records)?.as_slice() == line)
+}
+
+#[test]
+fn control_characters_of_titles_are_seen(rt: HostRuntime) -> Result<(), Fail> {
+    for &(title, line) in &[
+        (
+            b"A\r1 4 6 1 2 6 \x1b[2J".as_slice(),
+            b"1 3 5 1 - - untested A\\x0d1 4 6 1 2 6 \\x1b[2J\n".as_slice(),
+        ),
+        // DEL, U+0080, U+009F and U+00A0, and the byte of U+009B by itself, behind two leads and one
+        (
+            b"\0\x7f\xc2\x80\xc2\x9f\xc2\xa0\x9b\xc2\xc2\x9b\xc2".as_slice(),
+            b"1 3 5 1 - - untested \\x00\\x7f\\x80\\x9f\xc2\xa0\x9b\xc2\\x9b\xc2\n".as_slice(),
+        ),
+    ] {
+        assert!(rt; is_titled(rt.alloc(), title, line)?, "{title:?}");
+    }
+    Ok(())
+}
+
 #[test]
 fn titles_are_kept_in_one_line(rt: HostRuntime) -> Result<(), Fail> {
     for &(text, title) in &[
