@@ -28,7 +28,7 @@ fn main(rt: HostRuntime) -> ExitCode {
 
 /// Runs the program, and reports after its answer what was noted meanwhile.
 fn run_watched<E: Write + Drop>(rt: &HostRuntime, words: &[String], err: E) -> u8 {
-    let notes = Notes::new();
+    let notes = Notes::new(*rt);
     let mut err = WatchedErrors::new(err, &notes);
     if words.len() < 2 && rt.stdin().is_terminal() {
         let _ = err.write_all(WAITS);

@@ -7,11 +7,14 @@ ghost use Rattle.sok_databases.specs.Known.{KnownDatabases, MayOpen, unknown_dat
 
 use crate::book_file::BookFile;
 use crate::opening::{Unopened, has_levels, open};
+use sok_book::fault::BookFault;
 use sok_engine::fault::ToolFault;
-use sok_files::notes::OpenedFile;
+use sok_files::notes::{Notes, OpenedFile};
 use sok_files::watched::Watched;
 use sok_sql::reading::count;
+use sok_store::rule::broken_rule;
 use sqlite::{Connection, FileStore};
+use std::io;
 
 /// How a database is opened.
 #[derive(Clone, Copy, PartialEq, Eq)]
@@ -52,6 +55,14 @@ pub trait Databases {
     /// Takes a connection back when the work on the database at a path is done.
     fn close(&self, path: &str, connection: Self::Opened)
         ensures { (databases self.now).closes_as path.now connection };
+
+    /// Takes a connection back to a database that is no book, for this fault. Notes which rule a
+    /// row breaks.
+    fn refuse(&self, path: &str, connection: Self::Opened, fault: BookFault)
+        ensures { (databases self.now).closes_as path.now connection };
+
+    /// Returns the notes of the run.
+    fn notes(&self) -> &Notes;
 }
 
 /// The databases of the machine. No contract knows what they hold. The reason why one can't be
@@ -91,6 +102,22 @@ impl Databases for Watched<'_, HostRuntime> {
         // If nothing else was noted, a device fault is one of the database. Without a device fault
         // the note is not reported.
         self.fail(path, cause);
+    }
+
+    fn refuse(&self, path: &str, connection: Connection<FileStore<BookFile>>, fault: BookFault)
+        ensures { ⊤ }
+    {
+        let mut connection = connection;
+        if let BookFault::BadBook(id) = fault {
+            if let Some(rule) = broken_rule(&mut connection, self.inner().alloc(), id) {
+                self.fail(path, Some(io::Error::other(rule.words())));
+            }
+        }
+        self.close(path, connection);
+    }
+
+    fn notes(&self) -> &Notes {
+        Watched::notes(self)
     }
 }
 

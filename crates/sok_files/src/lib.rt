@@ -11,7 +11,9 @@
 //! | `machine` | the files of the machine (private) |
 //! | `notes` | what is reported beside the answer |
 //! | `own` | the file that a run has open beside its certificates |
+//! | `progress` | how far `settle` has come |
 //! | `summary` | the line that sums up an answer (private) |
+//! | `unnumbered` | lines of offers that begin with no id (private) |
 //! | `watched` | files and streams whose failures and reads are noted |
 #![tactic(auto)]
 
@@ -23,5 +25,7 @@ mod foreign;
 mod machine;
 pub mod notes;
 pub mod own;
+pub mod progress;
 mod summary;
+mod unnumbered;
 pub mod watched;

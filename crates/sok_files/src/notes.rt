@@ -1,11 +1,14 @@
 //! What is reported beside the answer of a command: what failed, which lines of the input are almost
-//! lines of a board, why a text has no level, and what the answer of `add`, `offers` or `settle`
-//! comes to. It is noted while the command runs and reported when it has ended.
+//! lines of a board or begin with no id, why a text has no level, and what the answer of `add`,
+//! `offers` or `settle` comes to. It is noted while the command runs and reported when it has ended;
+//! only how many levels `settle` has left is shown meanwhile.
 
 use crate::foreign::Foreign;
+use crate::progress::Progress;
 use crate::summary::Summary;
+use crate::unnumbered::OfferScan;
+use sok_book::escape::escape;
 use sok_engine::output::write_whole;
-use sok_near::near::NearLine;
 use sok_near::scan::NearScan;
 use std::cell::{Cell, RefCell};
 use std::fmt::{self, InlineText, Write as _};
@@ -30,14 +33,20 @@ struct Shown<'a>(&'a str);
 impl fmt::Display for Shown<'_> {
     fn fmt<W: fmt::Write>(&self, f: &mut fmt::Formatter<W>) -> fmt::Result {
         for c in self.0.chars() {
-            if c.is_control() {
-                write!(f, "\\x{:02x}", c as u32)?;
-            } else {
-                f.write_char(c)?;
+            match u8::try_from(c as u32) {
+                Ok(code) if c.is_control() => write_escaped(f, code)?,
+                _ => f.write_char(c)?,
             }
         }
         Ok(())
     }
+}
+
+fn write_escaped<W: fmt::Write>(f: &mut fmt::Formatter<W>, code: u8) -> fmt::Result {
+    for byte in escape(code) {
+        f.write_char(char::from(byte))?;
+    }
+    Ok(())
 }
 
 /// What failed, and the reason if it is known.
@@ -101,9 +110,12 @@ pub struct Notes {
     is_other: Cell<Option<bool>>,
     near: RefCell<NearScan>,
     foreign: RefCell<Foreign>,
+    /// The lines that begin with no id, if the text that is read is one of offers.
+    offers: RefCell<Option<OfferScan>>,
     /// Whether a text was read to its end.
     has_read: Cell<bool>,
     database: RefCell<Option<Changing>>,
+    progress: Progress,
     /// Whether the answer has bytes.
     has_answered: Cell<bool>,
     /// Whether nobody reads the answer any more, as behind `| head`.
@@ -112,14 +124,16 @@ pub struct Notes {
 
 impl Notes {
     /// Returns empty notes.
-    pub fn new() -> Notes {
+    pub fn new(rt: HostRuntime) -> Notes {
         Notes {
             failure: Cell::new(None),
             is_other: Cell::new(None),
             near: RefCell::new(NearScan::new()),
             foreign: RefCell::new(Foreign::new()),
+            offers: RefCell::new(None),
             has_read: Cell::new(false),
             database: RefCell::new(None),
+            progress: Progress::new(rt),
             has_answered: Cell::new(false),
             is_unread: Cell::new(false),
         }
@@ -135,6 +149,18 @@ impl Notes {
                 summary: Summary::new(levels),
             });
         }
+    }
+
+    /// Notes that the text that is read is one of offers.
+    pub fn expect_offers(&self) {
+        if let Ok(mut offers) = self.offers.try_borrow_mut() {
+            *offers = Some(OfferScan::new());
+        }
+    }
+
+    /// Returns how far `settle` has come.
+    pub fn progress(&self) -> &Progress {
+        &self.progress
     }
 
     /// Returns whether the path of that file still leads to it, or true if there is none. If it
@@ -208,8 +234,23 @@ impl Notes {
         if has_ended {
             self.has_read.set(true);
         }
-        if !is_other {
+        if !self.is_of_offers(bytes) && !is_other {
             self.look(bytes);
+        }
+    }
+
+    /// Returns whether the text is one of offers. If it is, its bytes are searched for lines that
+    /// begin with no id.
+    fn is_of_offers(&self, bytes: &[u8]) -> bool {
+        match self.offers.try_borrow_mut() {
+            Ok(mut offers) => match &mut *offers {
+                Some(scan) => {
+                    scan.pass(bytes);
+                    true
+                }
+                None => false,
+            },
+            Err(_) => false,
         }
     }
 
@@ -230,17 +271,23 @@ impl Notes {
         }
     }
 
-    /// Writes what was noted: what failed, if the exit status is 5, that of a device; the first ten
-    /// of the noted lines, and how many more there are; that no level was found; and what the answer
-    /// comes to.
+    /// Writes what was noted: what failed, if the exit status is 5, that of a device; the level at
+    /// which it is 6, since memory was refused; the first ten of the noted lines, and how many more
+    /// there are; that no level was found; and what the answer comes to.
     pub fn tell<E: Write>(&self, status: u8, err: &mut E) {
-        if status == 5 {
-            if let Some(failure) = self.failure.get() {
-                tell_line(failure, err);
-            }
+        self.progress.clear();
+        match (status, self.failure.get(), self.progress.level()) {
+            (5, Some(failure), _) => tell_line(failure, err),
+            (6, _, Some(id)) => tell_line(format_args!("  level {id}"), err),
+            _ => {}
         }
         if let Ok(near) = self.near.try_borrow() {
-            tell_near(near.first(), near.count(), err);
+            tell_first(near.first(), near.count(), err);
+        }
+        if let Ok(offers) = self.offers.try_borrow() {
+            if let Some(scan) = &*offers {
+                tell_first(scan.first(), scan.count(), err);
+            }
         }
         if self.takes_levels() {
             self.tell_no_level(status, err);
@@ -288,10 +335,10 @@ fn tell_summary<E: Write>(summary: &Summary, err: &mut E) {
     }
 }
 
-/// Writes the first of `count` noted lines, and how many more there are.
-fn tell_near<E: Write>(first: &[NearLine], count: u64, err: &mut E) {
-    for near in first {
-        tell_line(*near, err);
+/// Writes the first ten of `count` noted lines, and how many more there are.
+fn tell_first<D: fmt::Display + Copy, E: Write>(first: &[D], count: u64, err: &mut E) {
+    for noted in first {
+        tell_line(*noted, err);
     }
     let more = count.saturating_sub(10);
     if more > 0 {

@@ -200,6 +200,9 @@ impl<'a, W: Write> Write for WatchedOutput<'a, W> {
     ghost contents = { λ output. W.contents output.inner };
 
     fn write(&mut self, buf: &[u8]) -> io::Result<usize> {
+        if self.is_answer {
+            self.notes.progress().make_room();
+        }
         match self.inner.write(buf) {
             Ok(0) => {
                 self.fail(io::Error::from(ErrorKind::WriteZero));
@@ -243,6 +246,7 @@ impl<'a, E: Write> Write for WatchedErrors<'a, E> {
         if self.notes.is_unread() {
             return Err(io::Error::from(ErrorKind::BrokenPipe));
         }
+        self.notes.progress().clear();
         self.inner.write(buf)
     }
 

@@ -31,6 +31,12 @@ pub trait Certs {
     // Whether certificates may be kept there at all.
     ghost may_keep: { Self → Type 0 };
 
+    /// Takes note of how many levels will be searched.
+    fn expect(&self, _levels: usize) {}
+
+    /// Takes note that the level with an id is searched next.
+    fn begin(&self, _id: i64) {}
+
     /// Searches a level beside a best with so many pushes, or alone. It fails only if memory is refused.
     fn search(
         &self,

@@ -60,7 +60,7 @@ pub(crate) fn settle_kept<S: Alter, C: Certs, W: Write>(
 }
 
 /// Returns whether an id is outside the span.
-fn is_beyond(span: Span, id: i64) -> bool
+pub(crate) fn is_beyond(span: Span, id: i64) -> bool
     ensures { IsTrue result ↔ IsBeyond span id }
 {
     id < span.first || span.last < id
@@ -83,6 +83,7 @@ fn settle_level<S: Alter, C: Certs, W: Write>(
         limit span id (state S.Store book.old) (state S.Store book.new)
         (W.contents out.old) (W.contents out.new) result }
 {
+    certs.begin(id);
     match certs.search(alloc, &kept.level, limit, best_pushes(kept)) {
         Ok((finding, taken)) => {
             settle_by(alloc, book, limit, id, kept, finding, certs, taken, out)

@@ -13,8 +13,8 @@ ghost use Rattle.sok_settle.specs.Going.{GoesWhere};
 ghost use Rattle.sok_settle.specs.Settles.{SettlesSome, WritesSettling, settle_status};
 
 use crate::certs::Certs;
-use crate::level::settle_kept;
-use sok_book::record::Record;
+use crate::level::{is_beyond, settle_kept};
+use sok_book::record::{Record, Verdict};
 use sok_engine::fault::ToolFault;
 use sok_search::solve::LIMIT;
 use sok_store::book::Book;
@@ -103,12 +103,21 @@ fn settle_all<S: Alter, C: Certs, W: Write>(
         (W.contents out.old) (W.contents out.new) result)
         (SettlesSome (C.keeping certs.now) limit span) result }
 {
+    certs.expect(tried_count(span, records));
     let mut all = true;
     for kept in records {
         let settled = settle_kept(alloc, book, limit, span, kept, certs, out)?;
         all &= settled;
     }
     Ok(settle_status(all))
+}
+
+/// Returns how many of these levels are tried.
+fn tried_count(span: Span, records: &[Record]) -> usize {
+    records
+        .iter()
+        .filter(|kept| !is_beyond(span, kept.id) && matches!(kept.verdict, Verdict::Untested))
+        .count()
 }
 
 fn settle_status(all: bool) -> u8

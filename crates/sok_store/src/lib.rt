@@ -9,6 +9,7 @@
 //! | `page` | the record of one row (private) |
 //! | `parsing` | the record that has given values, if there is one (private) |
 //! | `records` | the records of all rows, or the first bad row (private) |
+//! | `rule` | which rule of a book a row breaks |
 //! | `standing` | the answer to an offer, with the best solution after it |
 #![tactic(auto)]
 
@@ -26,6 +27,7 @@ mod proving;
 mod reading;
 mod records;
 mod row;
+pub mod rule;
 pub mod standing;
 mod verdict;
 mod writing;

@@ -83,7 +83,7 @@ pub(crate) fn run_on<R: Read, W: Write, E: Write>(
     out: &mut W,
     err: &mut E,
 ) -> u8 {
-    run_watched(&Watched::new(rt, &Notes::new()), words, input, out, err)
+    run_watched(&Watched::new(rt, &Notes::new(*rt)), words, input, out, err)
 }
 
 /// What a run of the program leaves.

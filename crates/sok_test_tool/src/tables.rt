@@ -2,6 +2,7 @@
 
 use sok_book::fault::BookFault;
 use sok_store::book::{Book, OpenRefused};
+use sok_store::rule::{Rule, broken_rule};
 use sqlite::{Connection, MemStore};
 use std::alloc::Global;
 use std::process::Abort;
@@ -32,59 +33,74 @@ fn made(alloc: Global, sql: &str) -> Result<Opened, Fail> {
     opened(alloc, connection)
 }
 
-/// Returns why the two levels are no book after the second is changed.
-fn fault_with(alloc: Global, change: &str) -> Result<Option<BookFault>, Fail> {
+/// Returns why the two levels are no book after the second is changed, and which rule is broken.
+fn fault_with(alloc: Global, change: &str) -> Result<Option<(BookFault, Option<Rule>)>, Fail> {
     let sql = format!(in alloc; "{TWO_LEVELS} UPDATE level SET {change} WHERE id = 2")?;
     match made(alloc, sql.as_str())? {
         Ok(_) => Ok(None),
-        Err(refused) => Ok(Some(refused.fault)),
+        Err(mut refused) => {
+            let fault = refused.fault;
+            Ok(Some((fault, rule_for(alloc, &mut refused.connection, fault))))
+        }
+    }
+}
+
+fn rule_for(
+    alloc: Global,
+    connection: &mut Connection<MemStore>,
+    fault: BookFault,
+) -> Option<Rule> {
+    match fault {
+        BookFault::BadBook(id) => broken_rule(connection, alloc, id),
+        _ => None,
     }
 }
 
 #[test]
 fn the_first_bad_row_is_named(rt: HostRuntime) -> Result<(), Fail> {
-    for &(change, id) in &[
-        ("id = 3", 3),
-        ("id = 1", 1),
-        ("id = 0", 0),
-        ("id = -1", -1),
+    for &(change, id, rule) in &[
+        ("id = 3", 3, Rule::Ids),
+        ("id = 1", 1, Rule::Ids),
+        ("id = 0", 0, Rule::Ids),
+        ("id = -1", -1, Rule::Ids),
         // an id that is no whole number is reported as the row's place
-        ("id = 2.0", 2),
-        ("id = '2'", 2),
-        ("id = NULL", 1),
-        ("text = '###\n#@#\n#$#\n#.#\n###'", 2),
-        ("text = '###\r\n#@#\n#$#\n#.#\n###\n'", 2),
-        ("text = '### \n#@#\n#$#\n#.#\n###\n'", 2),
-        ("text = '###\n#@#\n#$#\n#.#\n'", 2),
-        ("text = '#####\n#@$.#\n#####\n', lurd = 'R'", 2),
-        ("text = NULL", 2),
-        ("text = x'41'", 2),
-        ("title = x''", 2),
-        ("title = x'410A42'", 2),
-        ("title = x'410D'", 2),
-        ("title = x'2041'", 2),
-        ("title = x'4109'", 2),
-        ("title = 'A'", 2),
-        ("lurd = 'd'", 2),
-        ("lurd = 'D '", 2),
-        ("lurd = 'x'", 2),
-        ("lurd = 'u'", 2),
-        ("lurd = '', pushes = 0, moves = 0", 2),
-        ("lurd = x'44'", 2),
-        ("lurd = NULL", 2),
-        ("pushes = 2", 2),
-        ("pushes = NULL", 2),
-        ("moves = 2", 2),
-        ("moves = '1'", 2),
-        ("moves = NULL", 2),
-        ("lurd = NULL, pushes = NULL, moves = NULL", 2),
-        ("verdict = 2", 2),
-        ("verdict = 3", 2),
-        ("verdict = -1", 2),
-        ("verdict = NULL", 2),
+        ("id = 2.0", 2, Rule::Kinds),
+        ("id = '2'", 2, Rule::Ids),
+        ("id = NULL", 1, Rule::Ids),
+        ("text = '###\n#@#\n#$#\n#.#\n###'", 2, Rule::Text),
+        ("text = '###\r\n#@#\n#$#\n#.#\n###\n'", 2, Rule::Text),
+        ("text = '### \n#@#\n#$#\n#.#\n###\n'", 2, Rule::Text),
+        ("text = '###\n#@#\n#$#\n#.#\n'", 2, Rule::Text),
+        ("text = '#####\n#@$.#\n#####\n', lurd = 'R'", 2, Rule::Once),
+        ("text = NULL", 2, Rule::Kinds),
+        ("text = x'41'", 2, Rule::Kinds),
+        ("title = x''", 2, Rule::Title),
+        ("title = x'410A42'", 2, Rule::Title),
+        ("title = x'410D'", 2, Rule::Title),
+        ("title = x'2041'", 2, Rule::Title),
+        ("title = x'4109'", 2, Rule::Title),
+        ("title = 'A'", 2, Rule::Kinds),
+        ("lurd = 'd'", 2, Rule::Best),
+        ("lurd = 'D '", 2, Rule::Best),
+        ("lurd = 'x'", 2, Rule::Best),
+        ("lurd = 'u'", 2, Rule::Best),
+        ("lurd = '', pushes = 0, moves = 0", 2, Rule::Best),
+        ("lurd = x'44'", 2, Rule::Kinds),
+        ("lurd = NULL", 2, Rule::Best),
+        ("pushes = 2", 2, Rule::Best),
+        ("pushes = NULL", 2, Rule::Best),
+        ("moves = 2", 2, Rule::Best),
+        ("moves = '1'", 2, Rule::Kinds),
+        ("moves = NULL", 2, Rule::Best),
+        ("lurd = NULL, pushes = NULL, moves = NULL", 2, Rule::Verdict),
+        ("verdict = 2", 2, Rule::Verdict),
+        ("verdict = 3", 2, Rule::Verdict),
+        ("verdict = -1", 2, Rule::Kinds),
+        ("verdict = NULL", 2, Rule::Kinds),
     ] {
         let found = fault_with(rt.alloc(), change)?;
-        assert_eq!(rt; found, Some(BookFault::BadBook(id)), "of {change}");
+        let bad = Some((BookFault::BadBook(id), Some(rule)));
+        assert_eq!(rt; found, bad, "of {change}");
     }
     Ok(())
 }

@@ -1,5 +1,5 @@
-//! What is reported beside an answer: what failed, lines that are almost lines of a board, why a
-//! text has no level, and what an answer comes to.
+//! What is reported beside an answer: what failed, lines that are almost lines of a board or begin
+//! with no id, why a text has no level, and what an answer comes to.
 
 use crate::rows::{prepare, put, run_watched, words};
 use sok_files::notes::Notes;
@@ -10,7 +10,7 @@ use std::fs;
 use std::io::Write;
 use std::test::Fail;
 
-const TOLD: [Row; 20] = [
+const TOLD: [Row; 21] = [
     (
         "sok list told/none",
         "",
@@ -110,6 +110,12 @@ const TOLD: [Row; 20] = [
         3,
     ),
     (
+        "sok offers told/kept told/other",
+        "0 fault 30 NoLevel\n0 fault 30 NoLevel\n1 kept 1 1\n0 fault 30 NoLevel\n0 fault 30 NoLevel\n0 fault 11 BadLetter 0\n",
+        "line 1: byte 1 is no digit of an id\nline 2: byte 0 is no digit of an id\nline 6: byte 0 is no digit of an id\nline 7: the id is too large\nline 8: byte 2 is no digit of an id\n1 kept, 5 with a fault\n",
+        3,
+    ),
+    (
         "sok settle told/kept --limit 1",
         "1 optimal 1 1\n2 limit 1 at least 2\n",
         "1 optimal, 1 at their limit\n",
@@ -137,9 +143,12 @@ const WIDE: &str = "#\0#\0#\0\n\0";
 /// A solution of the first level, twice, and letters for a level that is not there.
 const OFFERS: &str = "1 R\n1 R\n9 R\n";
 
+/// Lines that begin with no id, and others: blanks, and an id with zeros in front.
+const OTHER: &str = "1:R\r\n#comment\n\n \t\n001 R\n R\n4294967296 R\n12\u{a0}R x";
+
 /// Runs the program over watched files, reports what was noted, and returns the status.
 fn run_told<W: Write + Drop>(rt: &HostRuntime, words: &[String], out: W, err: &mut Vec<u8>) -> u8 {
-    let notes = Notes::new();
+    let notes = Notes::new(*rt);
     let mut out = WatchedOutput::of_answer(out, &notes);
     let watched = Watched::new(rt, &notes);
     let status = run_watched(&watched, words, &mut b"".as_slice(), &mut out, err);
@@ -185,6 +194,7 @@ fn what_is_reported_beside_an_answer(rt: HostRuntime) -> Result<(), Fail> {
     put(&rt, "told", "returns", RETURNS)?;
     put(&rt, "told", "wide", WIDE)?;
     put(&rt, "told", "offers", OFFERS)?;
+    put(&rt, "told", "other", OTHER)?;
     put(&rt, "told", "empty", "")?;
     let other = first_other(&rt, &TOLD)?;
     assert_eq!(rt; other, None);

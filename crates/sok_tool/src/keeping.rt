@@ -21,6 +21,7 @@ ghost use Rattle.sok_databases.specs.declared.databases.Access.{Access};
 ghost use Rattle.sok_databases.specs.declared.databases.Access.TheVariants as accesses;
 
 use crate::certs::CertFolder;
+use crate::watched_certs::WatchedCerts;
 use sok_book::fault::BookFault;
 use sok_book::text::BookText;
 use sok_databases::databases::{Access, Databases};
@@ -89,6 +90,7 @@ pub(crate) fn offers<
         db.now path.now (record { old = W.contents out.old; new = W.contents out.new }) result }
 {
     let (mut book, mut input) = book_and_file(rt, db, Access::Change, path)?;
+    rt.notes().expect_offers();
     let ended = offers_bytes(rt.alloc(), &mut book, &mut input, out);
     let told = told_by(rt, ended);
     rt.close(db, book.into_connection());
@@ -141,7 +143,7 @@ pub(crate) fn settle<
 }
 
 /// Settles the levels of a span of a book.
-fn settle_book<S: Alter, F: Folder + AllocGlobal, W: Write>(
+fn settle_book<S: Alter, F: Folder + Databases + AllocGlobal, W: Write>(
     rt: &F,
     book: &mut Book<S>,
     db: &str,
@@ -163,6 +165,7 @@ fn settle_book<S: Alter, F: Folder + AllocGlobal, W: Write>(
         (SettlesSome (keeping_of (files_by F.Output.contents (F.files rt.now)) db.now
         (option_map (λ s. string_bytes s) folder)) limit span)) }
 {
+    let progress = rt.notes().progress();
     match folder {
         Some(folder) => {
             let certs = CertFolder {
@@ -170,9 +173,16 @@ fn settle_book<S: Alter, F: Folder + AllocGlobal, W: Write>(
                 path: folder.as_str(),
                 own: Own::book(db),
             };
+            let certs = WatchedCerts { certs, progress };
             settle_bytes(rt.alloc(), book, limit, span, &certs, out)
         }
-        None => settle_bytes(rt.alloc(), book, limit, span, &NoCerts, out),
+        None => {
+            let certs = WatchedCerts {
+                certs: NoCerts,
+                progress,
+            };
+            settle_bytes(rt.alloc(), book, limit, span, &certs, out)
+        }
     }
 }
 
@@ -302,7 +312,7 @@ fn opened<S: Alter + Drop, F: Databases<Opened = Connection<S>> + AllocGlobal>(
         Ok(book) => Ok(book),
         Err(refused) => {
             let OpenRefused { connection, fault } = refused;
-            rt.close(db, connection);
+            rt.refuse(db, connection, fault);
             Err(ToolFault::from(fault))
         }
     }

@@ -8,9 +8,11 @@
 //! | `letters` | the letters that a word stands for (private) |
 //! | `keeping` | each command on a book (private) |
 //! | `certs` | the certificates of a book's levels, in files (private) |
+//! | `watched_certs` | how far `settle` has come, noted as it searches (private) |
 #![tactic(auto)]
 
 mod certs;
 mod keeping;
 mod letters;
 pub mod program;
+mod watched_certs;

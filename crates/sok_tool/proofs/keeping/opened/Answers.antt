@@ -8,7 +8,7 @@ returns-in-Ok-clause-opens g c = λ access kept. (c.args.connection, kept, c.in-
 pub returns-in-Err-clause-refused : goal.returns-in-Err-clause-refused
 returns-in-Err-clause-refused g c = λ access kept.
     let refused = c.in-Err.refused in
-    bookless c.args.connection refused.connection kept c.close-in-Err.ensures (
+    bookless c.args.connection refused.connection kept c.refuse.ensures (
       refused.fault,
       c.from.ensures,
       c.in-Err.ensures.unopened,
