@@ -5,7 +5,8 @@ ghost use Rattle.std.specs.Prelude.{◌<◌};
 
 use crate::telling::Told;
 use sok_rules::cell::{Dir, Spot};
-use sok_rules::fault::{LevelFault, PlayFault};
+use sok_rules::fault::{LevelFault, Memory, PlayFault};
+use sok_rules::level::Level;
 use sok_rules::session::Session;
 use sok_sketch::acts::{Act, answer};
 use sok_sketch::sketch;
@@ -50,7 +51,7 @@ const ACTS: [(Act, Result<bool, PlayFault>, Shown); 10] = [
 /// How many letters the walk has.
 const WALK: usize = 100;
 
-/// Plays on the corridor: the acts, and the walk.
+/// Plays on a copy of the corridor: the acts, and the walk.
 pub(crate) fn told_of(alloc: Global) -> Told {
     match session(alloc) {
         Ok(mut session) => acted(&mut session).then(walked(&mut session)),
@@ -60,10 +61,15 @@ pub(crate) fn told_of(alloc: Global) -> Told {
 
 fn session(alloc: Global) -> Result<Session, Told> {
     match sketch::level(alloc, sketch::CORRIDOR_OF_SIX_PUSHES) {
-        Ok(level) => Session::new(alloc, &level).map_err(|_| Told::Refused),
+        Ok(level) => session_of_copy(alloc, &level).map_err(|_| Told::Refused),
         Err(LevelFault::Memory) => Err(Told::Refused),
         Err(_) => Err(Told::Other(0)),
     }
+}
+
+fn session_of_copy(alloc: Global, level: &Level) -> Result<Session, Memory> {
+    let copy = level.copy(alloc)?;
+    Session::new(alloc, &copy)
 }
 
 /// Does the acts, one after another.

@@ -171,16 +171,43 @@ fn assert_told(rt: &impl Abort, alloc: Global, room: &Room, count: Told) -> Resu
     Ok(())
 }
 
+/// 65 rows of 65 squares.
+const ROOM_OF_65_ROWS: Room = Room {
+    top: "\
+###################################################################
+#@$.                                                              #
+",
+    row: "#                                                                 #\n",
+    times: 64,
+    bottom: "###################################################################\n",
+};
+
+/// 64 rows of 64 squares, with one box more than a board may have.
+const ROOM_OF_4096_AND_129_BOXES: Room = Room {
+    top: "\
+##################################################################
+#@$.                                                             #
+#$$$$$$$$$$$$$$$$$$$$$$$$$$$$$$$$$$$$$$$$$$$$$$$$$$$$$$$$$$$$$$$$#
+#$$$$$$$$$$$$$$$$$$$$$$$$$$$$$$$$$$$$$$$$$$$$$$$$$$$$$$$$$$$$$$$$#
+",
+    row: "#                                                                #\n",
+    times: 61,
+    bottom: "##################################################################\n",
+};
+
 #[test]
 fn large_rooms(rt: HostRuntime) -> Result<(), Fail> {
+    let too_large = Err((BoardFault::TooLarge, 9));
     let too_many = Err((BoardFault::TooManyBoxes, 10));
-    assert_told(&rt, rt.alloc(), &rooms::CORRIDOR_AROUND, Ok(500))?;
-    assert_told(&rt, rt.alloc(), &rooms::ROOM_OF_4096, Ok(4096))?;
-    assert_told(
-        &rt,
-        rt.alloc(),
-        &rooms::ROOM_OF_4097,
-        Err((BoardFault::TooLarge, 9)),
-    )?;
-    assert_told(&rt, rt.alloc(), &rooms::ROOM_OF_129_BOXES, too_many)
+    for &(room, count) in &[
+        (rooms::CORRIDOR_AROUND, Ok(500)),
+        (rooms::ROOM_OF_4096, Ok(4096)),
+        (rooms::ROOM_OF_4097, too_large),
+        (ROOM_OF_65_ROWS, too_large),
+        (rooms::ROOM_OF_129_BOXES, too_many),
+        (ROOM_OF_4096_AND_129_BOXES, too_many),
+    ] {
+        assert_told(&rt, rt.alloc(), &room, count)?;
+    }
+    Ok(())
 }

@@ -1,10 +1,11 @@
 //! Which levels a text holds, their titles and their texts.
 
-use sok_rules::cell::Cell;
+use sok_rules::cell::{Cell, Dir};
 use sok_rules::fault::LevelFault;
 use sok_rules::level::Level;
 use sok_sketch::sketch;
 use sok_text::collection::Collection;
+use sok_text::lurd::print_lurd;
 use sok_text::print::print_level;
 use std::alloc::{AllocError, Global};
 use std::process::Abort;
@@ -109,12 +110,26 @@ fn titles_by_their_numbers(rt: HostRuntime) -> Result<(), Fail> {
     Ok(())
 }
 
-/// Each row is printed with LF after it, and without the floor at its end.
+/// Returns whether the first level of a text is printed like this, and a letter to the right on it
+/// like that.
+fn prints(alloc: Global, text: &str, level: &str, letter: &str) -> Result<bool, Fail> {
+    let first = Collection::read(alloc, text.as_bytes())?.level(alloc, 1)?;
+    let rows = print_level(alloc, &first)?;
+    let letters = print_lurd(alloc, &first, &[Dir::Right])?;
+    Ok(rows.as_slice() == level.as_bytes() && letters.as_slice() == letter.as_bytes())
+}
+
+/// Each row is printed with LF after it, and without the floor at its end. A letter that pushes is
+/// in upper case.
 #[test]
-fn level_is_printed(rt: HostRuntime) -> Result<(), Fail> {
-    let level = sketch::level(rt.alloc(), "####\n#@$.#  \n#####\n")?;
-    let text = print_level(rt.alloc(), &level)?;
-    assert_eq!(rt; text.as_slice(), b"####\n#@$.#\n#####\n".as_slice());
+fn levels_and_letters_are_printed(rt: HostRuntime) -> Result<(), Fail> {
+    for &(text, level, letter) in &[
+        ("####\n#@$.#  \n#####\n", "####\n#@$.#\n#####\n", "R"),
+        (RETURNS, " #####\n #@$.#\n #####\n", "R"),
+        (sketch::ROOM_OF_TWO_ROWS, sketch::ROOM_OF_TWO_ROWS, "r"),
+    ] {
+        assert!(rt; prints(rt.alloc(), text, level, letter)?, "{text:?}");
+    }
     Ok(())
 }
 
@@ -144,21 +159,6 @@ fn packed_lines_at_their_limits(rt: HostRuntime) -> Result<(), Fail> {
         text.push_str(behind)?;
         let found = levels_and_fault(rt.alloc(), text.as_bytes())?;
         assert!(rt; found == (1, fault), "{times} times {part} and {behind}");
-    }
-    Ok(())
-}
-
-/// Of all texts of one byte, only a wall is a board, and it has no player.
-#[test]
-fn single_bytes(rt: HostRuntime) -> Result<(), Fail> {
-    for byte in 0..=u8::MAX {
-        let told = if byte == b'#' {
-            (1, Some(LevelFault::NoPlayer))
-        } else {
-            (0, Some(LevelFault::NoSuchLevel))
-        };
-        let found = levels_and_fault(rt.alloc(), &[byte])?;
-        assert!(rt; found == told, "byte {byte}");
     }
     Ok(())
 }

@@ -1,10 +1,12 @@
 //! Levels with titles, and a book that is full.
 
 use crate::answering::{Command, answer, book_in, empty_book};
+use crate::tables::fault_of;
 use sok_book::fault::BookFault;
 use sok_book::limits::LEVEL_LIMIT;
-use sok_book::record::Record;
+use sok_book::record::{Offer, Record};
 use sok_engine::fault::ToolFault;
+use sok_rules::cell::Dir;
 use sok_sketch::sketch::{ONE_PUSH, SOLVED, level};
 use sok_sql::making::create;
 use sok_sql::writing::insert;
@@ -56,7 +58,7 @@ fn keeps(
 /// A title with blanks around it, and a second line after it.
 const WHOLE: &str = " \t A \t level \r\t\r\nmore";
 
-/// Adds boards with titles, one after the other.
+/// Adds boards with titles, one after the other, and offers a solution of the first twice.
 fn add_titled(rt: &impl Abort, alloc: Global, book: &mut Book<MemStore>) -> Result<(), Fail> {
     let cases: &[(&str, &str, i64, Option<&[u8]>)] = &[
         (ONE_PUSH, WHOLE, 1, Some(b"A \t level")),
@@ -66,7 +68,15 @@ fn add_titled(rt: &impl Abort, alloc: Global, book: &mut Book<MemStore>) -> Resu
     for &(board, title, id, kept) in cases {
         assert!(rt; keeps(alloc, book, board, title, id, kept)?, "{title:?}");
     }
+    for &answer in &[Offer::Stored, Offer::Kept] {
+        assert!(rt; offered(book) == Ok(answer));
+    }
     Ok(())
+}
+
+/// Offers the solution of the first level.
+fn offered(book: &mut Book<MemStore>) -> Result<Offer, BookFault> {
+    book.offer(1, &[Dir::Right])
 }
 
 #[test]
@@ -178,9 +188,20 @@ fn add_more(rt: &impl Abort, alloc: Global, book: &mut Book<MemStore>) -> Result
     add_three(rt, alloc, book)
 }
 
+/// Returns why a full book is not opened again after a row is added to its table.
+fn fault_with_one_more(alloc: Global, book: Book<MemStore>) -> Result<Option<BookFault>, Fail> {
+    let mut connection = book.into_connection();
+    let id = LEVEL_LIMIT + 1;
+    insert(&mut connection, id, numbered(alloc, id)?.as_str(), None)?;
+    fault_of(alloc, connection)
+}
+
 #[test]
 fn a_full_book_takes_no_other_level(rt: HostRuntime) -> Result<(), Fail> {
     let alloc = rt.alloc();
     let mut book = full_book(alloc)?;
-    add_more(&rt, alloc, &mut book)
+    add_more(&rt, alloc, &mut book)?;
+    let fault = fault_with_one_more(alloc, book)?;
+    assert_eq!(rt; fault, Some(BookFault::BadBook(10_001)));
+    Ok(())
 }

@@ -30,7 +30,7 @@ fn checked<R: Read, C: Read, W: Write>(
 }
 
 /// A level, the lines of a certificate after the first, the line that is written, and the status.
-const ANSWERS: [(&str, &str, &str, u8); 14] = [
+const ANSWERS: [(&str, &str, &str, u8); 15] = [
     (
         sketch::ONE_PUSH,
         "pushes 1\nb 0 0 1 1 1 0\nend\n",
@@ -99,6 +99,13 @@ const ANSWERS: [(&str, &str, &str, u8); 14] = [
         "unsolvable\ns 0 0 1 1\nend\n",
         "refused 28 BadReason 0\n",
         1,
+    ),
+    // a packed line of 100 columns
+    (
+        "100#|#@$95-.#|100#\n",
+        "pushes 96\nb 0 0 1 1 96 0\nend\n",
+        "accepted at least 96 pushes\n",
+        0,
     ),
 ];
 
@@ -212,7 +219,7 @@ fn is_read(rt: &HostRuntime, fails_at: u32, reads: u32, fault: ToolFault) -> boo
 
 /// Does the same for an endless certificate.
 fn is_read_for_a_level(rt: &HostRuntime, reads: u32, fault: ToolFault) -> bool {
-    let mut cert_input = Source::new(&[b'#'; 4096], 0);
+    let mut cert_input = Source::new(&[b'x'; 4096], 0);
     let mut out = Vec::new(rt.alloc());
     let told = checked(
         rt.alloc(),

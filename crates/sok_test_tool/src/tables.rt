@@ -1,6 +1,7 @@
 //! Tables that are opened as a book, or that are refused.
 
 use sok_book::fault::BookFault;
+use sok_sql::making::create;
 use sok_store::book::{Book, OpenRefused};
 use sok_store::rule::{Rule, broken_rule};
 use sqlite::{Connection, MemStore};
@@ -115,6 +116,49 @@ fn tables_that_keep_the_rules_are_opened(rt: HostRuntime) -> Result<(), Fail> {
         "lurd = NULL, pushes = NULL, moves = NULL, verdict = 2",
     ] {
         assert_eq!(rt; fault_with(rt.alloc(), change)?, None, "of {change}");
+    }
+    Ok(())
+}
+
+/// Returns why a connection is not opened as a book.
+pub(crate) fn fault_of(
+    alloc: Global,
+    connection: Connection<MemStore>,
+) -> Result<Option<BookFault>, Fail> {
+    match opened(alloc, connection)? {
+        Ok(_) => Ok(None),
+        Err(refused) => Ok(Some(refused.fault)),
+    }
+}
+
+/// Returns why a row is no book in the table that a book makes.
+fn fault_in_its_own(alloc: Global, values: &str) -> Result<Option<BookFault>, Fail> {
+    let mut connection = Connection::open_in_memory(alloc)?;
+    create(&mut connection)?;
+    let row = format!(in alloc; "INSERT INTO level VALUES ({values})")?;
+    connection.execute_batch(row.as_str())?;
+    fault_of(alloc, connection)
+}
+
+/// A row with the first id, one with the second, and one with a verdict that wants a best.
+#[test]
+fn one_row_in_the_table_of_a_book(rt: HostRuntime) -> Result<(), Fail> {
+    for &(values, fault) in &[
+        (
+            "1, '#####\n#@$.#\n#####\n', NULL, NULL, NULL, NULL, 0",
+            None,
+        ),
+        (
+            "2, '#####\n#@$.#\n#####\n', NULL, NULL, NULL, NULL, 0",
+            Some(BookFault::BadBook(2)),
+        ),
+        (
+            "1, '#####\n#@$.#\n#####\n', NULL, NULL, NULL, NULL, 1",
+            Some(BookFault::BadBook(1)),
+        ),
+    ] {
+        let found = fault_in_its_own(rt.alloc(), values)?;
+        assert_eq!(rt; found, fault, "of {values}");
     }
     Ok(())
 }
