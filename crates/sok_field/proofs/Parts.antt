@@ -103,6 +103,28 @@ join-exact bits row word within s =
           )
     ]
 
+-- one row more of another set is joined
+pub join-more : (old other rows : List ℕ) (r : ℕ) → r < length rows
+    → ((s : Spot) → (has rows s ≡ true) ↔ ((has old s ≡ true) ⊎ ((s.row < r) × (has other s ≡ true)))) → (s : Spot)
+    → (has (set rows r (bit_or (get_or rows r 0) (get_or other r 0))) s ≡ true) ↔ ((has old s ≡ true) ⊎ ((s.row < r + 1) × (has other s ≡ true)))
+join-more old other rows r within so_far s =
+    let new = join-exact rows r (get_or other r 0) within s in (
+      λ e. elim (new.0 e) [
+        | inl there ↦ elim ((so_far s).0 there) [
+          | inl before ↦ inl before
+          | inr (above, e) ↦ inr (omega (arith, above), e)
+        ]
+        | inr (row, on) ↦ inr (omega (arith, row), on-has other s (ap (λ k. bit_of other k s.col) row ∙ on))
+      ],
+      λ one. new.1 (elim one [
+        | inl before ↦ inl ((so_far s).1 (inl before))
+        | inr (up, e) ↦ elim (cases_eq s.row r) [
+          | inl row ↦ inr (row, ap (λ k. bit_of other k s.col) (sym row) ∙ has-on other s e)
+          | inr apart ↦ inl ((so_far s).1 (inr (omega (arith, up, apart), e)))
+        ]
+      ]),
+    )
+
 -- a word whose bits all lie in one word
 put-alone : (old new : List ℕ) (piece base : ℕ) → ((n : ℕ) → IsPut piece base n → base / 64 ≡ n / 64)
     → ((s : Spot) → (has new s ≡ true) ↔ ((has old s ≡ true) ⊎ StandsIn (base / 64) (piece * 2 ^ (base % 64) % 2 ^ 64) s))

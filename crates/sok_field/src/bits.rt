@@ -40,6 +40,18 @@ pub(crate) fn take(rows: &mut [u64], spot: Spot)
     rows[row] = word & !(1 << spot.col);
 }
 
+/// Adds the squares of another set.
+pub(crate) fn join(rows: &mut [u64], other: &[u64])
+    requires { length other.now ≤ length rows.old }
+    ensures { (s : Spot)
+        → (has rows.new s ≡ true) ↔ ((has rows.old s ≡ true) ⊎ (has other.now s ≡ true)) }
+{
+    for (r, word) in other.iter().enumerate() {
+        let row = rows[r];
+        rows[r] = row | *word;
+    }
+}
+
 /// Returns the first square of a set, row by row and from left to right.
 pub(crate) fn first(rows: &[u64]) -> Option<Spot>
     requires { length rows.now ≤ ROWS }

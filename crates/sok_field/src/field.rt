@@ -139,6 +139,15 @@ impl Field {
         self.high.copy_from(&other.high);
     }
 
+    /// Adds the squares of another set.
+    pub fn join(&mut self, other: &Field)
+        ensures { (s : Spot)
+            → IsTrue (has self.new s) ↔ (IsTrue (has self.old s) ⊎ IsTrue (has other.now s)) }
+    {
+        self.low.join(&other.low);
+        self.high.join(&other.high);
+    }
+
     /// Returns the first square, row by row and from left to right.
     pub fn first(&self) -> Option<Spot>
         ensures { MatchOption result

@@ -117,6 +117,15 @@ impl Half {
         self.height = other.height;
     }
 
+    /// Adds the squares of another half.
+    pub(crate) fn join(&mut self, other: &Half)
+        ensures { (s : Spot)
+            → IsTrue (has self.new s) ↔ (IsTrue (has self.old s) ⊎ IsTrue (has other.now s)) }
+    {
+        bits::join(&mut self.rows, &other.rows[..other.height]);
+        self.height = self.height.max(other.height);
+    }
+
     /// Returns the first square, row by row and from left to right.
     pub(crate) fn first(&self) -> Option<Spot>
         ensures first { MatchOption result
