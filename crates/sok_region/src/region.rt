@@ -50,6 +50,15 @@ impl Region {
         Ok(Region { words })
     }
 
+    /// Makes this the region of the player among boxes, in place. It allocates nothing.
+    pub fn again(&mut self, board: &Board, boxes: &BoxSet, player: Sq)
+        requires { IsPlaced board.now boxes.now player }
+        ensures region { IsRegion board.now boxes.now player self.new }
+        ensures accepted { IsAccepted board.now }
+    {
+        write(&mut self.words, board, boxes, player);
+    }
+
     /// Returns whether the player reaches a square.
     pub fn has(&self, square: Sq) -> bool
         ensures { IsTrue result ↔ Contains self.now square }
