@@ -7,6 +7,7 @@ pub mod Chains
 pub mod Changing
 pub mod Concluding
 pub mod Corralling
+pub mod Entering
 pub mod Filling
 pub mod Finishing
 pub mod FollowedPushes

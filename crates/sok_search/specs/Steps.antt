@@ -1,10 +1,11 @@
 -- What a step of the search does: it adds a state, lowers the depth of one, or follows a push.
 use Rattle.std.specs.Prelude.{ℕ, ◌≡◌, ◌<◌, ◌≤◌, ◌+◌, ◌-◌, ◌*◌, ◌⊎◌, ◌↔◌, Bool, true, List, [], ◌∷◌, ◌++◌, Option, Some, MatchOption, Contains, length, slice_get, slice_set, sum_by}
 use Rattle.std.specs.Map.{keys_of, values_of}
-use Rattle.sok_board.specs.Area.{BoardView}
+use Rattle.sok_board.specs.Area.{BoardView, beside}
 use Rattle.sok_state.specs.declared.key.Key.{Key}
 use Rattle.sok_state.specs.declared.push.Push.{Push}
-use Rattle.sok_state.specs.Tables.{Entries, IsAt}
+use Rattle.sok_state.specs.Pushes.{IsKeyAfter, IsLegal}
+use Rattle.sok_state.specs.Tables.{Entries, IsAt, IsNext}
 use Rattle.sok_alone.specs.declared.losses.Loss.{Loss}
 use Rattle.sok_alone.specs.declared.losses.Losses.{Losses}
 use Rattle.sok_alone.specs.Losses.{IsLostBy, losses_of}
@@ -14,6 +15,7 @@ use Rattle.sok_search.specs.declared.note.Note.{Note}
 use Rattle.sok_search.specs.declared.note.Origin.{Origin}
 use Rattle.sok_search.specs.declared.note.Standing.{Standing}
 use Rattle.sok_search.specs.declared.note.Standing.TheVariants.{Open, Expanded, Dead, Lost}
+use Rattle.sok_search.specs.declared.step.Step.{Step}
 use Rattle.sok_search.specs.Searches.{Frame, Progress, HasBound, HasPrice, IsDead, IsMet, IsSearch, IsState}
 
 -- each state keeps its place, and its depth does not grow
@@ -137,6 +139,12 @@ IsRaised t whole player boxes old new = new ≡ old
 -- the work that remains, by which the search ends: room in the table, depths that can be lowered, the open list
 abbrev pub work : ℕ → Progress → ℕ
 work limit p = (limit - length p.table) * (2 * limit + 2) + (2 * sum_by (λ depth. depth) (values_of p.table) + length p.queue)
+
+-- a push of a state is legal, and leads to this square and this least square
+pub record IsStep (b : BoardView) (key : Key) (step : Step) : Type 0 where
+  pub legal : IsLegal b key step.push
+  pub ahead : beside b step.push.from step.push.dir ≡ Some step.to
+  pub next : (next : Key) → IsNext key step.push.from step.to step.least next → IsKeyAfter b key step.push next
 
 -- a push was followed: the invariant holds, states that are no deeper stay as they were, the push is met, and no work was added
 pub record IsPushed (b : BoardView) (limit : ℕ) (p : Progress) (key : Key) (depth : ℕ) (push : Push) (q : Progress) : Type 0 where

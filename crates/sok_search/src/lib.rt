@@ -24,6 +24,7 @@
 //! | `reaching` | a push is followed (private) |
 //! | `running` | one state is taken after another (private) |
 //! | `search` | what a search knows (private) |
+//! | `step` | a push, and where it leads (private) |
 //! | `stop` | why a search stops before its end (private) |
 //! | `tracing` | the pushes that lead to a solved state (private) |
 //! | `walkthrough` | the letters that make pushes one after another (private) |
@@ -50,6 +51,7 @@ mod reaching;
 mod running;
 mod search;
 pub mod solve;
+mod step;
 mod stop;
 mod tracing;
 mod walkthrough;

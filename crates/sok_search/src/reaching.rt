@@ -5,15 +5,17 @@ ghost use Rattle.sok_alone.specs.Losses.{IsLostBy, KeepsLosses, KeepsPlaces, los
 ghost use Rattle.sok_board.specs.Area.{IsAccepted, beside};
 ghost use Rattle.sok_board.specs.BoxSets.{put_in_order};
 ghost use Rattle.sok_state.specs.Keys.{IsKey};
+ghost use Rattle.sok_state.specs.Tables.{LacksNext};
 ghost use Rattle.sok_state.specs.Pushes.{IsLegal, IsOpened};
 ghost use Rattle.sok_search.specs.Searches.{IsSpared};
-ghost use Rattle.sok_search.specs.Steps.{IsPushed, Nears, holding, reopened};
+ghost use Rattle.sok_search.specs.Steps.{IsPushed, IsStep, Nears, holding, reopened};
 ghost use Rattle.sok_search.specs.PushScratches.{IsPushScratch};
 ghost use Rattle.sok_search.specs.Views.{progress_of, CutsOff, HoldsState};
 
 use crate::note::{Note, Origin, Standing};
 use crate::push_scratch::{PushScratch, judge_after, raise_after};
 use crate::search::{Search, add, is_beaten, lower};
+use crate::step::Step;
 use crate::stop::Stop;
 use sok_alone::losses::Losses;
 use sok_board::area::Sq;
@@ -100,8 +102,8 @@ fn is_spared(upper: Option<u32>, standing: Standing, depth: u32) -> bool
     }
 }
 
-/// Follows a push. Unless every state is kept, the push is left out if its box reaches no goal from there,
-/// or if it and one or two others can't be solved even alone on the board.
+/// Follows a push. A known state gets a smaller depth if this way is shorter; a new one is entered, unless it
+/// can be left out. Unless every state is kept, the push is left out if its box reaches no goal from there.
 pub(crate) fn reach(
     alloc: Global,
     setting: &Setting<'_>,
@@ -130,13 +132,10 @@ pub(crate) fn reach(
     if !search.aim.whole && setting.distances.stuck(to) {
         return Ok(());
     }
-    if !search.aim.whole && is_lost(&push_scratch.lifts, push.from, &key.boxes, push.from, to) {
-        return Ok(());
-    }
-    let known = search.table.len();
-    let losses = &mut search.losses;
-    let lost = ask(alloc, setting, losses, known, key, push, to)?;
-    if !search.aim.whole && lost.is_some() {
+    let least = push_scratch.scene.step(setting.board, key, push, to);
+    let step = Step { push, to, least };
+    if let Some(at) = search.table.get_next(index, push.from, to, least) {
+        approach(search, at, depth + 1, origin_of(index, push))?;
         return Ok(());
     }
     arrive(
@@ -148,14 +147,23 @@ pub(crate) fn reach(
         index,
         key,
         depth,
-        push,
-        to,
-        lost,
+        step,
     )
 }
 
-/// Looks up the state that a push leads to. A known one gets a smaller depth if this way is shorter. A
-/// new one is judged, and added unless it can be left out; `Cut` if the table is full.
+/// Returns how a state is reached by a push from the state at an index.
+fn origin_of(index: usize, push: Push) -> Option<Origin>
+    requires { index < 2 ^ 32 }
+    ensures { result ≡ Some (record { parent = index; push = push }) }
+{
+    Some(Origin {
+        parent: index as u32,
+        push,
+    })
+}
+
+/// Looks for losses in a new state, and enters it. Unless every state is kept, it is left out if the
+/// pushed box and one or two others can't be solved even alone on the board.
 fn arrive(
     alloc: Global,
     setting: &Setting<'_>,
@@ -165,37 +173,77 @@ fn arrive(
     index: usize,
     key: &Key,
     depth: u32,
-    push: Push,
-    to: Sq,
+    step: Step,
+) -> Result<(), Stop>
+    requires state { HoldsState setting.now.board.now limit index key.now depth search.old }
+    requires push_scratch { IsPushScratch setting.now.board.now key.now.boxes push_scratch.old }
+    requires opened { IsOpened setting.now.board.now key.now push_scratch.old.scene }
+    requires step { IsStep setting.now.board.now key.now step }
+    requires new { LacksNext search.old.table.entries index step.push.from step.to step.least }
+    ensures push_scratch { OnOk result
+        (IsPushScratch setting.now.board.now key.now.boxes push_scratch.new) }
+    ensures opened { OnOk result (IsOpened setting.now.board.now key.now push_scratch.new.scene) }
+    ensures pushed { OnOk result (IsPushed setting.now.board.now limit
+        (holding index (progress_of search.old)) key.now depth step.push
+        (holding index (progress_of search.new))) }
+    ensures cut { CutsOff setting.now.board.now limit search.old
+        (holding index (progress_of search.new)) result }
+{
+    let Step { push, to, .. } = step;
+    if !search.aim.whole && is_lost(&push_scratch.lifts, push.from, &key.boxes, push.from, to) {
+        return Ok(());
+    }
+    let known = search.table.len();
+    let losses = &mut search.losses;
+    let lost = ask(alloc, setting, losses, known, key, push, to)?;
+    if !search.aim.whole && lost.is_some() {
+        return Ok(());
+    }
+    enter(
+        alloc,
+        setting,
+        limit,
+        search,
+        push_scratch,
+        index,
+        key,
+        depth,
+        step,
+        lost,
+    )
+}
+
+/// Judges a new state, and adds it unless it can be left out. `Cut` if the table is full.
+fn enter(
+    alloc: Global,
+    setting: &Setting<'_>,
+    limit: u32,
+    search: &mut Search,
+    push_scratch: &mut PushScratch,
+    index: usize,
+    key: &Key,
+    depth: u32,
+    step: Step,
     lost: Option<u32>,
 ) -> Result<(), Stop>
     requires state { HoldsState setting.now.board.now limit index key.now depth search.old }
     requires push_scratch { IsPushScratch setting.now.board.now key.now.boxes push_scratch.old }
     requires opened { IsOpened setting.now.board.now key.now push_scratch.old.scene }
-    requires legal { IsLegal setting.now.board.now key.now push }
-    requires ahead { beside setting.now.board.now push.from push.dir ≡ Some to }
-    requires lost { IfSome lost (IsLostBy setting.now.board.now push.from
-        (put_in_order push.from to key.now.boxes) (losses_of search.old.losses)) }
+    requires step { IsStep setting.now.board.now key.now step }
+    requires new { LacksNext search.old.table.entries index step.push.from step.to step.least }
+    requires lost { IfSome lost (IsLostBy setting.now.board.now step.push.from
+        (put_in_order step.push.from step.to key.now.boxes) (losses_of search.old.losses)) }
     ensures push_scratch { OnOk result
         (IsPushScratch setting.now.board.now key.now.boxes push_scratch.new) }
     ensures opened { OnOk result (IsOpened setting.now.board.now key.now push_scratch.new.scene) }
     ensures pushed { OnOk result (IsPushed setting.now.board.now limit
-        (holding index (progress_of search.old)) key.now depth push
+        (holding index (progress_of search.old)) key.now depth step.push
         (holding index (progress_of search.new))) }
     ensures cut { CutsOff setting.now.board.now limit search.old
         (holding index (progress_of search.new)) result }
 {
+    let Step { push, to, least } = step;
     let from = push.from;
-    let least = push_scratch.scene.step(setting.board, key, push, to);
-    let origin = Some(Origin {
-        parent: index as u32,
-        push,
-    });
-    let deeper = depth + 1;
-    if let Some(at) = search.table.get_next(index, from, to, least) {
-        approach(search, at, deeper, origin)?;
-        return Ok(());
-    }
     let standing = judge_after(alloc, setting, push_scratch, &key.boxes, from, to, lost)?;
     let standing = raise_after(
         alloc,
@@ -207,6 +255,7 @@ fn arrive(
         to,
         standing,
     )?;
+    let deeper = depth + 1;
     if !search.aim.whole && is_spared(search.aim.upper, standing, deeper) {
         return Ok(());
     }
@@ -214,6 +263,7 @@ fn arrive(
         return Err(Stop::Cut);
     }
     let (at, _) = search.table.insert_next(index, from, to, least, deeper)?;
+    let origin = origin_of(index, push);
     add(search, at, deeper, Note { origin, standing })?;
     Ok(())
 }

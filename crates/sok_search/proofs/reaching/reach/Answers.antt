@@ -1,18 +1,17 @@
-use Rattle.std.proofs.Common.{◌∙◌, subst, sym}
-use Rattle.std.proofs.lemmas.Result.{on_ok_weaker}
+use Rattle.std.proofs.Common.{◌≡◌, ◌+◌, arith, refl, subst}
 use Rattle.sok_board.specs.Area.{BoardView}
+use Rattle.sok_board.proofs.Beside.{beside-within}
+use Rattle.sok_closed.proofs.Starting.{at-within}
 use Rattle.sok_distance.specs.Pushing.{IsStuck}
-use Rattle.sok_alone.specs.Losses.{losses_of}
-use Rattle.sok_search.specs.Searches.{IsSearch}
-use Rattle.sok_search.specs.Steps.{holding, knowing}
-use Rattle.sok_search.specs.Views.{HoldsState, progress_of}
-use Rattle.sok_search.proofs.Adding.{taken-key, taken-pushable}
-use Rattle.sok_search.proofs.Asking.{lost-by_lift, lost-found}
-use Rattle.sok_search.proofs.Invariant.{keeps-knowing}
-use Rattle.sok_search.proofs.Pushing.{pushed-knowing}
+use Rattle.sok_state.specs.Tables.{IsAt}
+use Rattle.sok_state.proofs.Stepped.{ComesNext, comes-next, next_of}
+use Rattle.sok_search.specs.Steps.{Nears}
+use Rattle.sok_search.specs.Views.{progress_of}
+use Rattle.sok_search.proofs.Adding.{note-within, taken, taken-deep, taken-key, taken-pushable}
 use Rattle.sok_search.proofs.LeavingOut.{leads-nowhere, nowhere-no_fewer, pushed-left_out}
+use Rattle.sok_search.proofs.Pushing.{pushed-known}
 use Rattle.sok_search.proofs.reaching.reach.Goals as goal
-use Rattle.sok_search.proofs.reaching.reach.Goals.{In_ok-lost}
+use Rattle.sok_search.proofs.reaching.reach.Goals.{After-step-least, In-Some}
 
 pub square_ahead-to-requires-clause-legal : goal.square_ahead-to-requires-clause-legal
 square_ahead-to-requires-clause-legal c = (
@@ -21,10 +20,6 @@ square_ahead-to-requires-clause-legal c = (
       c.requires.state.depth_is,
   c.requires.legal,
 )
-
-pub ask-requires-clause-state : goal.ask-requires-clause-state
-ask-requires-clause-state c = taken-key c.args.setting.now.board.now c.args.limit c.args.index (progress_of c.args.search.now) c.args.key.now c.args.depth
-    c.requires.state.running.search c.requires.state.there c.requires.state.depth_is
 
 pub returns-then-stuck-clause-pushed : goal.returns-then-stuck-clause-pushed
 returns-then-stuck-clause-pushed c =
@@ -41,56 +36,70 @@ returns-then-stuck-clause-pushed c =
           (leads-nowhere b running.accepted key state c.args.push c.requires.legal to c.square_ahead-to.ensures stuck);
     })
 
-pub returns-then-is_lost-clause-pushed : goal.returns-then-is_lost-clause-pushed
-returns-then-is_lost-clause-pushed c =
-    let b = c.args.setting.now.board.now in
+pub step-least-requires-clause-pushable : goal.step-least-requires-clause-pushable
+step-least-requires-clause-pushable c =
+    taken-pushable c.args.setting.now.board.now c.requires.state.running.accepted c.args.limit c.args.index (progress_of c.args.search.now) c.args.key.now c.args.depth
+    c.requires.state.running.search c.requires.state.there c.requires.state.depth_is c.args.push c.requires.legal c.args.push_scratch.now.scene c.requires.opened
+
+pub get_next-requires-clause-exists : goal.get_next-requires-clause-exists
+get_next-requires-clause-exists c = at-within c.args.search.now.table.entries c.args.key.now c.args.index c.requires.state.there
+
+pub get_next-requires-clause-to : goal.get_next-requires-clause-to
+get_next-requires-clause-to c =
+    let exists = beside-within c.args.setting.now.board.now c.args.push.dir c.args.push.from c.square_ahead-to.result c.square_ahead-to.ensures in
+    let wide = c.requires.state.running.search.wide in
+    omega (arith, exists, wide)
+
+pub origin_of-requires : goal.origin_of-requires
+origin_of-requires c =
+    let within = at-within c.args.search.now.table.entries c.args.key.now c.args.index c.requires.state.there in
+    let few = c.requires.state.running.search.few in
+    omega (arith, within, few, c.ranges.limit.fits)
+
+-- the state that the push leads to
+comes_in : (c : After-step-least) → ComesNext c.args.setting.now.board.now c.args.key.now c.args.push c.square_ahead-to.result c.step-least.result
+comes_in c = comes-next c.args.setting.now.board.now c.requires.state.running.accepted c.args.key.now c.args.push c.square_ahead-to.result c.step-least.result
+    c.args.push_scratch.now.scene (taken-pushable c.args.setting.now.board.now c.requires.state.running.accepted c.args.limit c.args.index
+    (progress_of c.args.search.now) c.args.key.now c.args.depth c.requires.state.running.search c.requires.state.there c.requires.state.depth_is c.args.push
+    c.requires.legal c.args.push_scratch.now.scene c.requires.opened) c.square_ahead-to.ensures c.step-least.ensures.next
+
+-- it is known
+there_in : (c : In-Some) → IsAt c.args.search.now.table.entries (next_of c.args.key.now c.args.push.from c.square_ahead-to.result c.step-least.result) c.in-Some.at
+there_in c =
+    let comes = comes-next c.args.setting.now.board.now c.requires.state.running.accepted c.args.key.now c.args.push c.square_ahead-to.result c.step-least.result
+    c.args.push_scratch.now.scene (taken-pushable c.args.setting.now.board.now c.requires.state.running.accepted c.args.limit c.args.index
+    (progress_of c.args.search.now) c.args.key.now c.args.depth c.requires.state.running.search c.requires.state.there c.requires.state.depth_is c.args.push
+    c.requires.legal c.args.push_scratch.now.scene c.requires.opened) c.square_ahead-to.ensures c.step-least.ensures.next in
+    c.in-Some.ensures.there c.args.key.now (next_of c.args.key.now c.args.push.from c.square_ahead-to.result c.step-least.result) c.requires.state.there comes.is
+
+pub overflow_add-depth : goal.overflow_add-depth
+overflow_add-depth c =
+    let deep = taken-deep c.args.setting.now.board.now c.args.limit c.args.index
+    (progress_of c.args.search.now) c.args.key.now c.args.depth c.requires.state.running.search c.requires.state.there c.requires.state.depth_is in
+    omega (arith, deep, c.ranges.limit.fits)
+
+pub approach-requires-clause-exists : goal.approach-requires-clause-exists
+approach-requires-clause-exists c = at-within c.args.search.now.table.entries _ c.in-Some.at (there_in ((goal.at.approach-requires-clause-exists c).In-Some))
+
+pub approach-requires-clause-small : goal.approach-requires-clause-small
+approach-requires-clause-small c =
+    let within = at-within c.args.search.now.table.entries _ c.in-Some.at (there_in ((goal.at.approach-requires-clause-small c).In-Some)) in
+    let few = c.requires.state.running.search.few in
+    omega (arith, within, few, c.ranges.limit.fits)
+
+pub approach-requires-clause-noted : goal.approach-requires-clause-noted
+approach-requires-clause-noted c =
+    note-within c.args.setting.now.board.now c.args.limit c.args.index (progress_of c.args.search.now) c.requires.state.running.search c.in-Some.at _
+    (there_in ((goal.at.approach-requires-clause-noted c).In-Some))
+
+pub returns-in-Some-clause-pushed : goal.returns-in-Some-clause-pushed
+returns-in-Some-clause-pushed c =
+    let held = c.requires.state in
     let p = progress_of c.args.search.now in
-    let key = c.args.key.now in
-    let running = c.requires.state.running in
-    let can = taken-pushable b running.accepted c.args.limit c.args.index p key c.args.depth running.search c.requires.state.there c.requires.state.depth_is c.args.push
-    c.requires.legal c.args.push_scratch.now.scene c.requires.opened in
-    pushed-left_out b c.args.limit c.args.index p running.search key c.args.depth c.args.push (record {
-      part = c.if-not-search-2.true;
-      no_fewer = nowhere-no_fewer b p.frame.aim.upper key c.args.depth c.args.push
-          (lost-by_lift b running.accepted key c.args.push c.square_ahead-to.result c.args.push_scratch.now.scene can c.square_ahead-to.ensures
-          c.args.push_scratch.now.lifts c.requires.push_scratch.are_lifts (c.is_lost.ensures.0 c.if-is_lost.true));
-    })
-
--- the search that knows what was found of boxes taken alone
-known-in : (c : In_ok-lost) → IsSearch c.args.setting.now.board.now c.args.limit (holding c.args.index (knowing c.ask.new.losses (progress_of c.args.search.now)))
-known-in c = keeps-knowing c.args.setting.now.board.now c.args.limit (holding c.args.index (progress_of c.args.search.now)) c.ask.new.losses c.requires.state.running.search
-    c.in_ok-lost.ensures.losses c.in_ok-lost.ensures.kept
-
-pub returns-then-is_some-clause-pushed : goal.returns-then-is_some-clause-pushed
-returns-then-is_some-clause-pushed c =
-    let b = c.args.setting.now.board.now in
-    let p = progress_of c.args.search.now in
-    let q = knowing c.ask.new.losses p in
-    let key = c.args.key.now in
-    let running = c.requires.state.running in
-    let can = taken-pushable b running.accepted c.args.limit c.args.index p key c.args.depth running.search c.requires.state.there c.requires.state.depth_is c.args.push
-    c.requires.legal c.args.push_scratch.now.scene c.requires.opened in
-    pushed-knowing b c.args.limit (holding c.args.index p) c.ask.new.losses key c.args.depth c.args.push (holding c.args.index q)
-    (pushed-left_out b c.args.limit c.args.index q (known-in ((goal.at.returns-then-is_some-clause-pushed c).In_ok-lost)) key c.args.depth c.args.push (record {
-      part = c.if-not-search-3.true;
-      no_fewer = nowhere-no_fewer b p.frame.aim.upper key c.args.depth c.args.push
-          (lost-found b running.accepted key c.args.push c.square_ahead-to.result c.args.push_scratch.now.scene can c.square_ahead-to.ensures
-          (losses_of c.ask.new.losses) c.in_ok-lost.lost (sym c.is_some.ensures ∙ c.if-is_some.true) c.in_ok-lost.ensures.lost);
-    }))
-
--- which holds the state still
-held-in : (c : In_ok-lost) → HoldsState c.args.setting.now.board.now c.args.limit c.args.index c.args.key.now c.args.depth
-    (record c.args.search.now { losses = c.ask.new.losses })
-held-in c = record {
-  running = record { accepted = c.requires.state.running.accepted; search = known-in c };
-  there = c.requires.state.there;
-  depth_is = c.requires.state.depth_is;
-}
-
-pub arrive-requires-clause-state : goal.arrive-requires-clause-state
-arrive-requires-clause-state c = held-in ((goal.at.arrive-requires-clause-state c).In_ok-lost)
-
-pub returns-clause-pushed : goal.returns-clause-pushed
-returns-clause-pushed c = on_ok_weaker c.arrive.result
-    (pushed-knowing c.args.setting.now.board.now c.args.limit (holding c.args.index (progress_of c.args.search.now)) c.ask.new.losses c.args.key.now c.args.depth c.args.push
-    (holding c.args.index (progress_of c.arrive.new.search))) c.arrive.ensures.pushed
+    let one = taken c.args.setting.now.board.now c.args.limit c.args.index p c.args.key.now c.args.depth held.running.search held.there held.depth_is in
+    let comes = comes_in ((goal.at.returns-in-Some-clause-pushed c).After-step-least) in
+    let next = next_of c.args.key.now c.args.push.from c.square_ahead-to.result c.step-least.result in
+    pushed-known c.args.setting.now.board.now c.args.limit c.args.index p held.running.search c.args.key.now c.args.depth held.there held.depth_is
+    one.note one.note_is c.args.push c.requires.legal next comes.came.exact comes.came.of_board comes.came.as_many c.in-Some.at p.frame p.table refl
+    (record { there = there_in ((goal.at.returns-in-Some-clause-pushed c).In-Some); unchanged = refl }) (progress_of c.approach.new.search)
+    (subst (λ origin. Nears p c.in-Some.at (c.args.depth + 1) origin (progress_of c.approach.new.search)) c.origin_of.ensures c.in_ok-approach.ensures)
