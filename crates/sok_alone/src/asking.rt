@@ -1,6 +1,6 @@
 //! Which boxes of a position are checked for a loss, and when.
 
-ghost use Rattle.std.specs.Prelude.{◌<◌, All, Contains, IfOk, IsTrue, length};
+ghost use Rattle.std.specs.Prelude.{◌<◌, All, Contains, IfOk, IsTrue, OnOk, length};
 ghost use Rattle.sok_board.specs.BoxSets.{put_in_order};
 ghost use Rattle.sok_region.specs.Regions.{IsPlaced};
 ghost use Rattle.sok_alone.specs.Asking.{MayAsk, TellsAsked};
@@ -17,6 +17,7 @@ use sok_distance::setting::Setting;
 use sok_rules::cell::Dir;
 use sok_rules::fault::Memory;
 use std::alloc::Global;
+use std::mem;
 
 /// The greatest distance of boxes that are close to each other, in rows and in columns.
 const REACH: u32 = 2;
@@ -48,6 +49,21 @@ impl Asking<'_> {
         self.known >= KNOWN || are_close(self.board, self.to, one)
     }
 
+    /// Lists the other boxes that are close to the pushed one, in ascending order.
+    fn list_near(&self, near: &mut Vec<Sq>) -> Result<(), Memory>
+        requires { ArePushed self.now.board.now self.now.boxes.now self.now.from self.now.to }
+        ensures { OnOk result
+            (All (λ square. square < length self.now.board.now.area) near.new.items) }
+    {
+        near.clear();
+        for one in self.boxes.list() {
+            if *one != self.from && are_close(self.board, self.to, *one) {
+                near.push(*one)?;
+            }
+        }
+        Ok(())
+    }
+
     /// Returns whether boxes are on all of these squares after the push.
     fn leaves(&self, squares: &[Sq]) -> bool
         ensures { IsTrue result → All
@@ -74,8 +90,8 @@ impl Losses {
     /// Finds a loss that shows that no solution follows a push of one of the boxes, and returns its
     /// index. The loss is of the pushed box and another one, or of it and two others if the three
     /// are close: alone on the board, they can't be solved from there. Results are kept. Boxes that
-    /// were not checked before are searched only if that is worth it with `known` states. `None`
-    /// does not mean that there is no loss.
+    /// were not checked before are searched only if that is worth it with `known` states. If `pairs`
+    /// is false, only groups of three are checked. `None` does not mean that there is no loss.
     pub fn loss_after(
         &mut self,
         alloc: Global,
@@ -85,6 +101,7 @@ impl Losses {
         from: Sq,
         dir: Dir,
         to: Sq,
+        pairs: bool,
     ) -> Result<Option<u32>, Memory>
         requires pushed { ArePushed setting.now.board.now boxes.now from to }
         requires losses { KeepsLosses setting.now.board.now self.old }
@@ -102,11 +119,17 @@ impl Losses {
             dir,
             to,
         };
-        let found = self.loss_of_two(&asking)?;
-        if found.is_some() {
-            return Ok(found);
+        if pairs {
+            let found = self.loss_of_two(&asking)?;
+            if found.is_some() {
+                return Ok(found);
+            }
         }
-        self.loss_of_three(&asking)
+        let mut near = mem::replace(&mut self.near, Vec::new(alloc));
+        asking.list_near(&mut near)?;
+        let found = self.loss_of_three(&asking, &near);
+        self.near = near;
+        found
     }
 
     /// Returns the index of a loss of the pushed box and another one.
@@ -126,41 +149,22 @@ impl Losses {
         Ok(None)
     }
 
-    /// Returns the index of a loss of the pushed box and two others, if the three are close to each
-    /// other.
-    fn loss_of_three(&mut self, asking: &Asking<'_>) -> Result<Option<u32>, Memory>
-        requires { MayAsk asking.now self.old }
-        ensures { IfOk result (TellsAsked asking.now self.old self.new) }
-    {
-        for one in asking.boxes.list() {
-            if *one == asking.from || !are_close(asking.board, asking.to, *one) {
-                continue;
-            }
-            let found = self.loss_beside(asking, *one)?;
-            if found.is_some() {
-                return Ok(found);
-            }
-        }
-        Ok(None)
-    }
-
-    /// Returns the index of a loss of the pushed box, `one`, which is close to it, and a later box
-    /// that is close to both.
-    fn loss_beside(&mut self, asking: &Asking<'_>, one: Sq) -> Result<Option<u32>, Memory>
+    /// Returns the index of a loss of the pushed box and two others that are close to each other.
+    /// `near` lists the boxes that are close to the pushed one.
+    fn loss_of_three(&mut self, asking: &Asking<'_>, near: &[Sq]) -> Result<Option<u32>, Memory>
         requires asking { MayAsk asking.now self.old }
-        requires among { Contains asking.now.boxes.now one }
+        requires exist { All (λ square. square < length asking.now.board.now.area) near.now }
         ensures { IfOk result (TellsAsked asking.now self.old self.new) }
     {
-        for two in asking.boxes.list() {
-            if *two <= one || *two == asking.from || !are_close(asking.board, asking.to, *two) {
-                continue;
-            }
-            if !are_close(asking.board, one, *two) {
-                continue;
-            }
-            let found = self.ask(asking, one, Some(*two))?;
-            if found.is_some() {
-                return Ok(found);
+        for (index, one) in near.iter().enumerate() {
+            for two in &near[index + 1..] {
+                if !are_close(asking.board, *one, *two) {
+                    continue;
+                }
+                let found = self.ask(asking, *one, Some(*two))?;
+                if found.is_some() {
+                    return Ok(found);
+                }
             }
         }
         Ok(None)

@@ -59,6 +59,8 @@ pub struct Losses {
     /// more than the index of its loss.
     asked: Table,
     losses: Vec<Loss>,
+    /// The boxes that are close to the pushed one: a buffer that `loss_after` reuses.
+    pub(crate) near: Vec<Sq>,
     workspace: Workspace,
 }
 
@@ -72,6 +74,7 @@ impl Losses {
             hints: Hints::new(alloc, squares)?,
             asked: Table::new(alloc, squares),
             losses: Vec::new(alloc),
+            near: Vec::new(alloc),
             workspace: Workspace::new(alloc, board),
         })
     }

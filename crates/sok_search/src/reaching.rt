@@ -83,7 +83,7 @@ fn ask(
     if setting.distances.stuck(to) {
         return Ok(None);
     }
-    losses.loss_after(alloc, setting, known, &key.boxes, push.from, push.dir, to)
+    losses.loss_after(alloc, setting, known, &key.boxes, push.from, push.dir, to, true)
 }
 
 /// Returns whether a new state at `depth` can be left out: its standing shows that no solution through

@@ -104,7 +104,7 @@ fn is_lost(
     let boxes = placed(rt, alloc, setting.board, squares, player)?;
     assert!(rt; boxes.has(*from) && !boxes.has(*to));
     assert!(rt; (*to as usize) < setting.board.squares());
-    let place = losses.loss_after(alloc, setting, 1_000, &boxes, *from, *dir, *to)?;
+    let place = losses.loss_after(alloc, setting, 1_000, &boxes, *from, *dir, *to, true)?;
     Ok(place.is_some())
 }
 
