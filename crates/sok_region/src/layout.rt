@@ -124,7 +124,7 @@ pub fn put_boxes(field: &mut Field, board: &Board, boxes: &[Sq])
 }
 
 /// Puts a square of the area into a set.
-fn put(field: &mut Field, board: &Board, square: Sq)
+pub fn put(field: &mut Field, board: &Board, square: Sq)
     requires accepted { IsAccepted board.now }
     requires exists { square < length board.now.area }
     ensures { (s : Spot)
