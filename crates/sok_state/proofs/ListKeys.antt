@@ -17,7 +17,7 @@ use Rattle.sok_board.specs.Limits.{square_limit}
 use Rattle.sok_board.proofs.Lists.{Contains-cons, Contains-cons_cases, Contains-filter, Contains-from_filter}
 use Rattle.sok_state.specs.PackedKeys.{TakesList, TakesListMove, apart, list_limit}
 use Rattle.sok_state.specs.declared.key.Key.{Key}
-use Rattle.sok_state.proofs.Placed.{same_rising}
+use Rattle.sok_state.proofs.Placed.{length-rising, same_rising}
 
 -- a list has no fewer squares than those that a push has no part in
 pub length-apart : (from to : ℕ) (boxes : List ℕ) → length (apart from to boxes) ≤ length boxes
@@ -190,6 +190,20 @@ more_squares from to boxes next rising next_rising moved no_from no_to =
     (λ s among. let (one, other, _) = (Contains-apart to to next s).0 among in elim ((moved s).0 one) [ inl is ↦ absurd (other is) | inr (was, _) ↦ was ]) in
     let long = ap length same in
     omega (arith, long, less)
+
+-- where it moves one of the boxes, there are no more behind it
+pub no_more_squares : (from to : ℕ) (boxes next : List ℕ) → IsStrictlyIncreasing next → IsMoved boxes from to next → Contains boxes from
+    → length next ≤ length boxes
+no_more_squares from to boxes next rising moved there =
+    let fewer = length-apart_less from to boxes from there (inl refl) in
+    let all = length-rising next (to ∷ apart from to boxes) rising (λ s among. elim (cases_eq s to) [
+      | inl is ↦ (0, omega arith, sym is)
+      | inr other ↦ elim ((moved s).0 among) [
+        | inl is ↦ absurd (other is)
+        | inr (was, left) ↦ Contains-cons to s (apart from to boxes) ((Contains-apart from to boxes s).1 (was, left, other))
+      ]
+    ]) in
+    omega (arith, fewer, all)
 
 -- so it is of too many boxes for a list, if those apart from the push fill one
 pub past_lists : (from to : ℕ) (boxes next : List ℕ) → IsStrictlyIncreasing boxes → IsStrictlyIncreasing next → IsMoved boxes from to next

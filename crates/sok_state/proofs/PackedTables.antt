@@ -13,6 +13,7 @@ use Rattle.std.proofs.lemmas.List.Quantifiers.{position-Some}
 use Rattle.sok_rules.proofs.Proper.{fails_at_each, position-none}
 use Rattle.std.specs.Map.{keys_of, values_of}
 use Rattle.sok_board.proofs.Lists.{Contains-at}
+use Rattle.sok_board.specs.Limits.{box_limit}
 use Rattle.sok_state.specs.PackedKeys.{ArePacked, Stored, entries_of}
 use Rattle.sok_state.specs.declared.key.Key.{Key}
 use Rattle.sok_state.specs.Tables.{Entries, GoesLast, HasDistinctKeys, IsAt, Lowers, Stays}
@@ -52,7 +53,7 @@ some_of : {X : Type 0} (xs : List X) → 0 < length xs → X
 some_of [] within = absurd (omega (arith, within))
 some_of (x ∷ xs) within = x
 
-module _ {K : Type 0} (state_of : K → Key) (fits : K → Type 0) (keys : List K) (depths : List ℕ) (packed : ArePacked fits keys depths) where
+module _ {K : Type 0} (state_of : K → Key) (fits : K → Type 0) (keys : List K) (depths : List ℕ) (packed : ArePacked state_of fits keys depths) where
   -- an index of the entries that a table is seen to have is one of its depths
   pub depth-within : {spare : ℕ} (seen : Stored) (index : ℕ) → record { entries = entries_of state_of keys depths; spare = spare } ≡ seen
       → index < length seen.entries → index < length depths
@@ -87,13 +88,18 @@ module _ {K : Type 0} (state_of : K → Key) (fits : K → Type 0) (keys : List 
       let some = some_of keys (omega (arith, within)) in
       (get_or keys k some, fit_at k some within, sym (state_at k key some within) ∙ is)
 
-  pub ArePacked-more : (key : K) (depth : ℕ) → fits key → ArePacked fits (keys ++ key ∷ []) (depths ++ depth ∷ [])
-  ArePacked-more key depth fit = record {
+  each_more : (key : K) → fits key → length (state_of key).boxes ≤ box_limit → (i : ℕ) (other : K) → slice_get (keys ++ key ∷ []) i ≡ Some other
+      → fits other × (length (state_of other).boxes ≤ box_limit)
+  each_more key fit few i other at = elim (Contains-push_cases keys key other (Contains-at (keys ++ key ∷ []) other i at)) [
+    | inl (k, within, is) ↦ let here = slice_get-get_or keys k other within ∙ ap Some is in (packed.fit k other here, packed.few k other here)
+    | inr same ↦ subst (λ one. fits one × (length (state_of one).boxes ≤ box_limit)) same (fit, few)
+  ]
+
+  pub ArePacked-more : (key : K) (depth : ℕ) → fits key → length (state_of key).boxes ≤ box_limit → ArePacked state_of fits (keys ++ key ∷ []) (depths ++ depth ∷ [])
+  ArePacked-more key depth fit few = record {
     a_depth_each = let each = packed.a_depth_each in omega (arith, each, length-append {A = ℕ}, length-append {A = K});
-    fit = λ i other at. elim (Contains-push_cases keys key other (Contains-at (keys ++ key ∷ []) other i at)) [
-      | inl (k, within, is) ↦ packed.fit k other (slice_get-get_or keys k other within ∙ ap Some is)
-      | inr same ↦ subst fits same fit
-    ];
+    fit = λ i other at. (each_more key fit few i other at).0;
+    few = λ i other at. (each_more key fit few i other at).1;
   }
 
   -- a smaller depth is written

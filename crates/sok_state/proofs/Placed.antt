@@ -1,12 +1,15 @@
 -- Positions for which numbers of squares stand.
-use Rattle.std.proofs.Common.{ℕ, ◌≡◌, ◌<◌, ◌⊎◌, inl, inr, refl, sym, ap, ◌∙◌, List, [], ◌∷◌, true, zero, suc, Contains, arith, length, get_or}
-use Rattle.std.proofs.Common.{map, ◌||◌}
+use Rattle.std.proofs.Common.{ℕ, ◌≡◌, ◌≢◌, ◌<◌, ◌≤◌, ◌⊎◌, inl, inr, refl, sym, ap, ◌∙◌, List, [], ◌∷◌, true, zero, suc, Contains, arith, length, get_or}
+use Rattle.std.proofs.Common.{map, ◌||◌, AllPairs}
 use Rattle.std.specs.List.Sorted.{IsStrictlyIncreasing}
 use Rattle.std.proofs.lemmas.Bool.{cases_Bool}
+use Rattle.std.proofs.lemmas.Bool.Decides.{Decides-eqb}
+use Rattle.std.proofs.lemmas.Cmp.{nat_eq_equiv}
 use Rattle.std.proofs.lemmas.List.{get_or-map, length-map}
 use Rattle.std.proofs.lemmas.List.Elements.{All-contains}
 use Rattle.std.proofs.lemmas.List.Folds.{Any-from_list_any}
 use Rattle.std.proofs.lemmas.List.Kept.{AllPairs-from_increasing}
+use Rattle.std.proofs.lemmas.Map.Made.{IsDistinct-from_AllPairs, is_member-Decides, length-le_from_is_member}
 use Rattle.sok_rules.specs.declared.cell.Spot.{Spot}
 use Rattle.sok_rules.specs.Squares.{same_spot}
 use Rattle.sok_rules.proofs.Spots.{same_spot-is}
@@ -28,6 +31,13 @@ pub same_rising : (xs ys : List ℕ) → IsStrictlyIncreasing xs → IsStrictlyI
     → ((s : ℕ) → Contains ys s → Contains xs s) → xs ≡ ys
 same_rising xs ys rising_xs rising_ys = same_ordered (λ x y. x < y) (λ x y below above. omega (arith, below, above)) xs ys
     (AllPairs-from_increasing xs rising_xs) (AllPairs-from_increasing ys rising_ys)
+
+-- a rising list whose numbers are all in another is no longer
+pub length-rising : (xs ys : List ℕ) → IsStrictlyIncreasing xs → ((s : ℕ) → Contains xs s → Contains ys s) → length xs ≤ length ys
+length-rising xs ys rising each =
+    let apart : AllPairs ◌≢◌ xs = λ i j d before within same. let less = AllPairs-from_increasing xs rising i j d before within in omega (arith, less, same) in
+    length-le_from_is_member nat_eq_equiv xs ys (IsDistinct-from_AllPairs Decides-eqb xs apart)
+    (λ s there. (is_member-Decides Decides-eqb ys s).1 (each s ((is_member-Decides Decides-eqb xs s).0 there)))
 
 -- positions with the same boxes have them from the same numbers
 pub same_boxes : (b : BoardView) → IsArea b.rows b.area → (player other_player : ℕ) (boxes other_boxes : List ℕ) → IsPlaced b boxes player

@@ -1,7 +1,7 @@
 -- The keys that packed keys represent.
 use Rattle.std.specs.Prelude.{ℕ, ◌≡◌, ◌<◌, ◌≤◌, ◌*◌, ◌^◌, List, [], ◌∷◌, ◌==◌, ◌&&◌, not, filter, Some, All, length, slice_get, slice_index}
 use Rattle.std.specs.List.Sorted.{IsStrictlyIncreasing}
-use Rattle.sok_board.specs.Limits.{square_limit}
+use Rattle.sok_board.specs.Limits.{box_limit, square_limit}
 use Rattle.sok_region.specs.Regions.{squares_of}
 use Rattle.sok_state.specs.declared.key.Key.{Key}
 use Rattle.sok_state.specs.declared.bit_key.BitKey.{BitKey}
@@ -66,7 +66,8 @@ pub record Stored : Type 0 where
   pub entries : Entries
   pub spare : ℕ
 
--- each key has a depth, and satisfies the invariant of its form
-pub record ArePacked {K : Type 0} (fits : K → Type 0) (keys : List K) (depths : List ℕ) : Type 0 where
+-- each key has a depth, satisfies the invariant of its form, and has no more boxes than a board may have
+pub record ArePacked {K : Type 0} (state_of : K → Key) (fits : K → Type 0) (keys : List K) (depths : List ℕ) : Type 0 where
   pub a_depth_each : length depths ≡ length keys
   pub fit : (i : ℕ) (key : K) → slice_get keys i ≡ Some key → fits key
+  pub few : (i : ℕ) (key : K) → slice_get keys i ≡ Some key → length (state_of key).boxes ≤ box_limit

@@ -1,10 +1,9 @@
 -- A table of states: distinct keys with depths, in the order of their insertion.
-use Rattle.std.specs.Prelude.{ℕ, ◌≡◌, ◌≢◌, ◌<◌, ◌≤◌, ◌↔◌, List, [], ◌∷◌, ◌++◌, Some, Bool, IsTrue, if◌then◌else◌, AllPairs, Contains, length, slice_get}
+use Rattle.std.specs.Prelude.{ℕ, ◌≡◌, ◌≢◌, ◌<◌, ◌↔◌, List, [], ◌∷◌, ◌++◌, Some, Bool, IsTrue, if◌then◌else◌, AllPairs, Contains, length, slice_get}
 use Rattle.std.specs.Prelude.{slice_set, slice_index, MatchBool}
 use Rattle.std.specs.Map.{keys_of, values_of}
 use Rattle.std.specs.List.Sorted.{IsStrictlyIncreasing}
 use Rattle.sok_board.specs.BoxSets.{IsMoved}
-use Rattle.sok_board.specs.Limits.{box_limit}
 use Rattle.sok_state.specs.declared.key.Key.{Key}
 
 abbrev pub Entries : Type 0
@@ -24,10 +23,6 @@ HasDistinctKeys entries = AllPairs (λ key other. key ≢ other) (keys_of entrie
 -- the key at an index
 abbrev pub IsAt : Entries → Key → ℕ → Type 0
 IsAt entries key index = slice_get (keys_of entries) index ≡ Some key
-
--- the key at an index has no more boxes than a board may have
-abbrev pub HasFewBoxes : Entries → ℕ → Type 0
-HasFewBoxes entries index = (key : Key) → IsAt entries key index → length key.boxes ≤ box_limit
 
 -- the depth of the key at an index
 abbrev pub depth_at : Entries → ℕ → ℕ

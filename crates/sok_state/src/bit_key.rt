@@ -6,8 +6,10 @@ ghost use Rattle.sok_state.specs.PackedKeys.{IsOfWords, TakesBits, TakesBitsMove
 use crate::key::Key;
 use crate::packed::Packed;
 use sok_board::area::Sq;
+use sok_board::box_set::BoxSet;
 use sok_field::numbers;
 use sok_rules::fault::Memory;
+use std::alloc::Global;
 
 /// A packed `Key`: the squares of its boxes as bits by their numbers, and the least square that the
 /// player can walk to. `N` words have a bit for each square of the board.
@@ -46,16 +48,14 @@ impl<const N: usize> Packed for BitKey<N> {
         self.least
     }
 
-    /// Reserves room for one square per bit first.
-    fn list(&self, squares: &mut Vec<Sq>) -> Result<(), Memory> {
-        squares.reserve(64 * N)?;
-        squares.clear();
+    fn boxes(&self, alloc: Global) -> Result<BoxSet, Memory> {
+        let mut squares = Vec::new(alloc);
         let mut left = self.boxes;
         while let Some(square) = numbers::first(&left) {
-            squares.push(square).unwrap();
+            squares.push(square)?;
             numbers::take(&mut left, square);
         }
-        Ok(())
+        BoxSet::of(alloc, &squares)
     }
 
     fn moved(&self, from: Sq, to: Sq, least: Sq) -> BitKey<N> {

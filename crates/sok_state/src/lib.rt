@@ -15,7 +15,7 @@
 //! | `packed_table` | packed keys of one form in order of insertion, with depths (private) |
 //! | `push` | a push: the square of its box, and its direction |
 //! | `scene` | a loaded state |
-//! | `stepping` | the state that a push leads to from a loaded one |
+//! | `stepping` | the state that a push leads to |
 //! | `store` | a table of packed keys, in the form that suits a board (private) |
 //! | `table` | keys in order of insertion, with depths, as narrow as a board allows |
 #![tactic(auto)]

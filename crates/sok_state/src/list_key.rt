@@ -8,7 +8,9 @@ use crate::key::Key;
 use crate::packed::Packed;
 use arrayvec::ArrayVec;
 use sok_board::area::Sq;
+use sok_board::box_set::BoxSet;
 use sok_rules::fault::Memory;
+use std::alloc::Global;
 
 /// The greatest number of boxes of such a key.
 pub(crate) const BOXES: usize = 16;
@@ -60,10 +62,8 @@ impl Packed for ListKey {
         self.least
     }
 
-    fn list(&self, squares: &mut Vec<Sq>) -> Result<(), Memory> {
-        squares.clear();
-        squares.extend_from_slice(self.boxes.as_slice())?;
-        Ok(())
+    fn boxes(&self, alloc: Global) -> Result<BoxSet, Memory> {
+        BoxSet::of(alloc, self.boxes.as_slice())
     }
 
     fn moved(&self, from: Sq, to: Sq, least: Sq) -> ListKey {

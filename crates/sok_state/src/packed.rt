@@ -1,13 +1,15 @@
 //! The trait of the keys that a table keeps.
 
-ghost use Rattle.std.specs.Prelude.{ℕ, ◌≡◌, ◌↔◌, OnOk, IsTrue};
-ghost use Rattle.std.specs.List.Sorted.{IsStrictlyIncreasing};
+ghost use Rattle.std.specs.Prelude.{ℕ, ◌≡◌, ◌≤◌, ◌↔◌, IfOk, IsTrue, length};
+ghost use Rattle.sok_board.specs.Limits.{box_limit};
 ghost use Rattle.sok_state.specs.declared.key.Key.{Key};
 ghost use Rattle.sok_state.specs.Tables.{IsNext};
 
 use crate::key::Key;
 use sok_board::area::Sq;
+use sok_board::box_set::BoxSet;
 use sok_rules::fault::Memory;
+use std::alloc::Global;
 use std::hash::Hash;
 
 /// A key in a form of a fixed size, which needs no allocation of its own.
@@ -28,17 +30,18 @@ pub(crate) trait Packed: Hash + Drop {
     fn of(key: &Key) -> Self
         requires { takes key.now }
         ensures state { state_of result ≡ key.now }
-        ensures fits { fits result };
+        ensures fits { fits result }
+        ensures few { length (state_of result).boxes ≤ box_limit };
 
     /// Returns the least square that the player can walk to.
     fn least(&self) -> Sq
         ensures { result ≡ (state_of self.now).least };
 
-    /// Replaces `squares` with the squares of the boxes, in ascending order. Errors: `Memory`.
-    fn list(&self, squares: &mut Vec<Sq>) -> Result<(), Memory>
-        requires { fits self.now }
-        ensures list { OnOk result (squares.new.items ≡ (state_of self.now).boxes) }
-        ensures rising { IsStrictlyIncreasing (state_of self.now).boxes };
+    /// Returns the boxes. Errors: `Memory`.
+    fn boxes(&self, alloc: Global) -> Result<BoxSet, Memory>
+        requires fits { fits self.now }
+        requires few { length (state_of self.now).boxes ≤ box_limit }
+        ensures { IfOk result (λ boxes. boxes ≡ (state_of self.now).boxes) };
 
     /// Returns the key after a push: a box moved from `from` to `to`, and `least` is the least
     /// square that the player can walk to.

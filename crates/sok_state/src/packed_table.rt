@@ -3,15 +3,15 @@
 ghost use Rattle.std.specs.Prelude.{◌≡◌, ◌<◌, ◌≤◌, ◌+◌, [], Some, Contains, IfOk, IsOk, OnErr};
 ghost use Rattle.std.specs.Prelude.{MatchOption, length, slice_get};
 ghost use Rattle.std.specs.Map.{keys_of, values_of};
+ghost use Rattle.sok_board.specs.Limits.{box_limit};
 ghost use Rattle.sok_state.specs.declared.key.Key.{Key};
-ghost use Rattle.sok_state.specs.Tables.{Enters, EntersNext, HasDistinctKeys, HasFewBoxes, HasNext};
+ghost use Rattle.sok_state.specs.Tables.{Enters, EntersNext, HasDistinctKeys, HasNext};
 ghost use Rattle.sok_state.specs.Tables.{IsAt, LacksNext, Lowers};
 
 use crate::key::Key;
 use crate::packed::Packed;
 use indexmap::IndexSet;
 use sok_board::area::Sq;
-use sok_board::box_set::BoxSet;
 use sok_rules::fault::Memory;
 use std::alloc::Global;
 use std::marker::Model;
@@ -37,7 +37,7 @@ impl<K: Packed> Model for PackedTable<K> {
       spare = min (spare table.keys) (vec_capacity table.depths - vec_len table.depths);
     } };
 
-    ghost invariant = { λ table. ArePacked K.fits table.keys.keys table.depths.items };
+    ghost invariant = { λ table. ArePacked K.state_of K.fits table.keys.keys table.depths.items };
 }
 
 impl<K: Packed> PackedTable<K> {
@@ -92,6 +92,8 @@ impl<K: Packed> PackedTable<K> {
         requires exists { index < length self.old.entries }
         requires takes { (key : Key) → IsAt self.old.entries key index
             → K.takes_move key from to }
+        requires there { (key : Key) → IsAt self.old.entries key index
+            → Contains key.boxes from }
         ensures inserted { IfOk result (λ told. EntersNext
             self.old.entries index from to least depth told.0 told.1 self.new.entries) }
         ensures refused { OnErr result (self.new.entries ≡ self.old.entries) }
@@ -105,7 +107,8 @@ impl<K: Packed> PackedTable<K> {
 
     /// Inserts a packed key.
     fn enter(&mut self, key: K, depth: u32) -> Result<(usize, bool), Memory>
-        requires { K.fits key }
+        requires fits { K.fits key }
+        requires few { length (K.state_of key).boxes ≤ box_limit }
         ensures inserted { IfOk result (λ told. Enters
             self.old.entries (K.state_of key) depth told.0 told.1 self.new.entries) }
         ensures refused { OnErr result (self.new.entries ≡ self.old.entries) }
@@ -159,21 +162,14 @@ impl<K: Packed> PackedTable<K> {
         self.keys.get_index_of(key)
     }
 
-    /// Returns the key at an index. `squares` is overwritten with its boxes.
-    pub(crate) fn key(
-        &self,
-        alloc: Global,
-        squares: &mut Vec<Sq>,
-        index: usize,
-    ) -> Result<Key, Memory>
-        requires exists { index < length self.now.entries }
-        requires few { HasFewBoxes self.now.entries index }
+    /// Returns the key at an index.
+    pub(crate) fn key(&self, alloc: Global, index: usize) -> Result<Key, Memory>
+        requires { index < length self.now.entries }
         ensures { IfOk result (λ key. IsAt self.now.entries key index) }
     {
         let packed = self.packed(index);
-        packed.list(squares)?;
         Ok(Key {
-            boxes: BoxSet::of(alloc, squares)?,
+            boxes: packed.boxes(alloc)?,
             least: packed.least(),
         })
     }
@@ -183,6 +179,7 @@ impl<K: Packed> PackedTable<K> {
         requires exists { index < length self.now.entries }
         ensures there { IsAt self.now.entries (K.state_of result.now) index }
         ensures fits { K.fits result.now }
+        ensures few { length (K.state_of result.now).boxes ≤ box_limit }
     {
         self.keys.get_index(index).unwrap()
     }

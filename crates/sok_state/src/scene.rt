@@ -1,6 +1,6 @@
 //! A loaded state.
 
-ghost use Rattle.std.specs.Prelude.{ℕ, List, OnOk};
+ghost use Rattle.std.specs.Prelude.{ℕ, ◌≡◌, List, OnErr, OnOk};
 ghost use Rattle.sok_board.specs.Area.{IsAccepted};
 ghost use Rattle.sok_region.specs.Layouts.{IsLaidOut};
 ghost use Rattle.sok_state.specs.Keys.{IsKey};
@@ -36,12 +36,13 @@ impl Scene {
         }
     }
 
-    /// Loads a state. Errors: `Memory`; the scene must not be used afterwards.
+    /// Loads a state. Errors: `Memory`; then nothing changes.
     pub fn open(&mut self, board: &Board, key: &Key) -> Result<(), Memory>
         requires accepted { IsAccepted board.now }
         requires key { IsKey board.now key.now }
         requires laid { (boxes : List ℕ) × IsLaidOut board.now boxes self.old.layout }
-        ensures { OnOk result (IsOpened board.now key.now self.new) }
+        ensures opened { OnOk result (IsOpened board.now key.now self.new) }
+        ensures refused { OnErr result (self.new ≡ self.old) }
     {
         self.layout.lay(board, key.boxes.list())?;
         drawing::flood_from(&mut self.reached, self.layout.free(), board, key.least);

@@ -1,4 +1,4 @@
-//! The state that a push leads to from a loaded one.
+//! The state that a push leads to.
 
 ghost use Rattle.std.specs.Prelude.{◌≡◌, Some, IfOk, OnErr};
 ghost use Rattle.std.specs.List.Sorted.{IsStrictlyIncreasing};
@@ -26,6 +26,19 @@ pub fn square_ahead(board: &Board, push: Push) -> Sq
     ensures { beside board.now push.from push.dir ≡ Some result }
 {
     board.neighbour(push.from, push.dir).unwrap()
+}
+
+/// Returns the key of the state that a legal push leads to. Errors: `Memory`.
+pub fn after(alloc: Global, board: &Board, key: &Key, push: Push) -> Result<Key, Memory>
+    requires state { IsKey board.now key.now }
+    requires legal { IsLegal board.now key.now push }
+    ensures { IfOk result (IsKeyAfter board.now key.now push) }
+{
+    // Called for its clause that the boxes are few.
+    let _boxes = key.boxes.list();
+    let mut scene = Scene::new(alloc, board);
+    scene.open(board, key)?;
+    scene.after(alloc, board, key, push)
 }
 
 /// Returns the boxes after a push that moves its box to `to`. Errors: `Memory`.

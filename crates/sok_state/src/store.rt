@@ -88,9 +88,8 @@ fn in_bits(alloc: Global, lists: &PackedTable<ListKey>) -> Result<PackedTable<Bi
 {
     lists.forms();
     let mut bits = PackedTable::new(alloc);
-    let mut squares = Vec::new(alloc);
     for index in 0..lists.len() {
-        let key = lists.key(alloc, &mut squares, index)?;
+        let key = lists.key(alloc, index)?;
         bits.insert(&key, lists.depth(index))?;
     }
     Ok(bits)

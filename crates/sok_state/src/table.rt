@@ -4,7 +4,8 @@ ghost use Rattle.std.specs.Prelude.{◌≡◌, ◌<◌, ◌≤◌, ◌+◌, [], 
 ghost use Rattle.std.specs.Prelude.{OnErr, MatchOption, length, slice_get};
 ghost use Rattle.std.specs.Map.{keys_of, values_of};
 ghost use Rattle.sok_board.specs.Limits.{square_limit};
-ghost use Rattle.sok_state.specs.Tables.{Enters, EntersNext, HasDistinctKeys, HasFewBoxes, HasNext};
+ghost use Rattle.sok_state.specs.declared.key.Key.{Key};
+ghost use Rattle.sok_state.specs.Tables.{Enters, EntersNext, HasDistinctKeys, HasNext};
 ghost use Rattle.sok_state.specs.Tables.{IsAt, LacksNext, Lowers};
 
 use crate::key::Key;
@@ -107,8 +108,8 @@ impl Table {
         packed!(&mut self.store, table => table.insert(key, depth))
     }
 
-    /// Inserts the key after a push from the key at `index`, as `insert` does: a box moved from
-    /// `from` to `to`, and `least` is the least square that the player can walk to.
+    /// Inserts the key after a push from the key at `index`, as `insert` does: its box on `from` is
+    /// moved to `to`, and `least` is the least square that the player can walk to.
     pub fn insert_next(
         &mut self,
         index: usize,
@@ -118,6 +119,7 @@ impl Table {
         depth: u32,
     ) -> Result<(usize, bool), Memory>
         requires exists { index < length self.old.entries }
+        requires there { (key : Key) → IsAt self.old.entries key index → Contains key.boxes from }
         requires from { from < self.old.room }
         requires to { to < self.old.room }
         ensures inserted { IfOk result (λ told. EntersNext
@@ -161,13 +163,12 @@ impl Table {
         packed!(&self.store, table => table.get_next(index, from, to, least))
     }
 
-    /// Returns the key at an index. `squares` is overwritten with its boxes. Errors: `Memory`.
-    pub fn key(&self, alloc: Global, squares: &mut Vec<Sq>, index: usize) -> Result<Key, Memory>
-        requires exists { index < length self.now.entries }
-        requires few { HasFewBoxes self.now.entries index }
+    /// Returns the key at an index. Errors: `Memory`.
+    pub fn key(&self, alloc: Global, index: usize) -> Result<Key, Memory>
+        requires { index < length self.now.entries }
         ensures { IfOk result (λ key. IsAt self.now.entries key index) }
     {
-        packed!(&self.store, table => table.key(alloc, squares, index))
+        packed!(&self.store, table => table.key(alloc, index))
     }
 
     /// Returns the depth of the key at an index.

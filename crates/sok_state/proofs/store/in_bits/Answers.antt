@@ -1,17 +1,10 @@
-use Rattle.std.proofs.Common.{◌<◌, ap, subst, arith, length, All}
+use Rattle.std.proofs.Common.{◌<◌, subst, arith, All}
 use Rattle.sok_board.proofs.Lists.{Contains-at}
 use Rattle.sok_board.specs.Limits.{square_limit}
 use Rattle.std.specs.Map.{keys_of}
 use Rattle.sok_state.specs.declared.key.Key.{Key}
 use Rattle.sok_state.proofs.Copied.{copies}
 use Rattle.sok_state.proofs.store.in_bits.Goals as goal
-
-pub key-requires-clause-few : goal.key-requires-clause-few
-key-requires-clause-few c = λ key at.
-    let (form, fit, is) = c.forms.ensures key (Contains-at (keys_of c.args.lists.now.entries) key c.loop-index.index at) in
-    let few = fit.taken.few in
-    let same = ap (λ (k : Key). length k.boxes) is in
-    omega (arith, few, same)
 
 pub insert-requires : goal.insert-requires
 insert-requires c =

@@ -1,8 +1,10 @@
-use Rattle.std.proofs.Common.{◌≡◌, ◌+◌, ◌++◌, ◌∷◌, [], ◌∙◌, refl, sym, subst, replicate, get_or, take}
+use Rattle.std.proofs.Common.{◌≡◌, ◌+◌, ◌++◌, ◌∷◌, [], ◌∙◌, refl, sym, subst, replicate, get_or, take, length, ◌≤◌}
 use Rattle.std.proofs.lemmas.List.{take_more, take_all}
+use Rattle.sok_board.specs.Limits.{box_limit}
 use Rattle.sok_field.specs.Numbers.{bit_of_number}
 use Rattle.sok_field.proofs.OneSquare.{has-zeros}
 use Rattle.sok_state.proofs.Packing.{IsPacked, IsPacked-none, IsPacked-more, squares_of-packed}
+use Rattle.sok_state.specs.declared.key.Key.{Key}
 use Rattle.sok_state.proofs.bit_key.BitKeyPacked.of.Goals as goal
 
 pub loop-square-init : goal.loop-square-init
@@ -22,3 +24,6 @@ returns-clause-state g c =
     let boxes = squares_of-packed c.loop-square.boxes c.args.key.now.boxes c.list-square-items.ensures.rising
     (subst (IsPacked c.loop-square.boxes) all c.loop-square.invariant) in
     λ i. record { boxes = boxes i; least = c.args.key.now.least }
+
+pub returns-clause-few : goal.returns-clause-few
+returns-clause-few g c = subst (λ (key : Key). length key.boxes ≤ box_limit) (sym (returns-clause-state g c)) c.list-square-items.ensures.few

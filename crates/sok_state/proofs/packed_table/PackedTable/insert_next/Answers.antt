@@ -1,11 +1,20 @@
-use Rattle.std.proofs.Common.{subst}
+use Rattle.std.proofs.Common.{arith, subst}
 use Rattle.std.proofs.lemmas.Result.{IfOk-weaker, on_err_weaker}
 use Rattle.std.specs.Map.{keys_of}
 use Rattle.std.specs.Prelude.{Contains}
 use Rattle.sok_state.specs.declared.key.Key.{Key}
 use Rattle.sok_state.specs.Tables.{Enters}
+use Rattle.sok_state.proofs.ListKeys.{no_more_squares}
 use Rattle.sok_state.proofs.Moves.{next-at}
 use Rattle.sok_state.proofs.packed_table.PackedTable.insert_next.Goals as goal
+
+pub enter-requires-clause-few : goal.enter-requires-clause-few
+enter-requires-clause-few g c =
+    let args = c.args in
+    let next = c.moved-next.ensures.next in
+    let fewer = no_more_squares args.from args.to _ _ next.rising next.moved (c.requires.there _ c.packed.ensures.there) in
+    let few = c.packed.ensures.few in
+    omega (arith, fewer, few)
 
 pub returns-clause-inserted : goal.returns-clause-inserted
 returns-clause-inserted g c = IfOk-weaker c.enter.result _ _ (λ told entered. record {

@@ -18,12 +18,12 @@ flood_from-requires-clause-start c =
     let drawn = subst (Draws b (λ n. Contains key.boxes n → ⊥)) (sym c.free.ensures) laid.free in
     (through-exact b c.requires.accepted.numbered key.boxes c.free.result.now drawn key.least placed.player_exists).1 placed.free
 
-pub returns : goal.returns
-returns c =
+pub returns-clause-opened : goal.returns-clause-opened
+returns-clause-opened c =
     let b = c.args.board.now in
     let key = c.args.key.now in
     let accepted = c.requires.accepted in
-    let laid = laid_in ((goal.at.returns c).In_ok-lay) in
+    let laid = laid_in ((goal.at.returns-clause-opened c).In_ok-lay) in
     let drawn = subst (Draws b (λ n. Contains key.boxes n → ⊥)) (sym c.free.ensures) laid.free in
     record {
       laid = laid;
