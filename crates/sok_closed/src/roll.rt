@@ -113,13 +113,12 @@ impl Roll {
     {
         // Called for its clause that no key is in the table twice.
         let _states = self.table.len();
-        let mut squares = Vec::new(alloc);
         let mut expansion = Expansion::new(alloc, board);
         for (index, expanded) in self.marks.iter().enumerate() {
             if !*expanded {
                 continue;
             }
-            let key = self.table.key(alloc, &mut squares, index)?;
+            let key = self.table.key(alloc, index)?;
             let depth = self.table.depth(index);
             let table = &self.table;
             if let Some(push) = open_push(board, table, index, &key, depth, &mut expansion)? {

@@ -45,13 +45,14 @@ fn one_told(alloc: Global, table: &mut Table, place: usize) -> Result<Told, Memo
     requires few { place < 80 }
     ensures { OnOk result (64 ≤ table.new.room) }
 {
+    let first = key(alloc, 0)?;
     let key = key(alloc, place)?;
     let mut told = Told::Same;
-    let mut answer = enter(table, &key, place);
+    let mut answer = enter(table, &first, &key, place);
     if answer.is_err() {
         let stayed = has_first(alloc, table, place)? && lacks(table, &key);
         told = Told::Refused.checked(stayed, place);
-        answer = enter(table, &key, place);
+        answer = enter(table, &first, &key, place);
     }
     let entered = answer == Ok((place, true)) && has_first(alloc, table, place + 1)?;
     Ok(told.checked(entered, place))
@@ -76,17 +77,20 @@ fn square(place: usize) -> Sq
 }
 
 /// Enters the state at a place: by its key, or as the state after a push from the first one.
-fn enter(table: &mut Table, key: &Key, place: usize) -> Result<(usize, bool), Memory>
+fn enter(table: &mut Table, first: &Key, key: &Key, place: usize) -> Result<(usize, bool), Memory>
     requires wide { 64 ≤ table.old.room }
+    requires first { All (λ square. square < 64) first.now.boxes }
     requires exist { All (λ square. square < 64) key.now.boxes }
     requires few { place < 80 }
     ensures { 64 ≤ table.new.room }
 {
     let depth = place as u32;
-    if place % 2 == 0 || table.len() == 0 {
-        return table.insert(key, depth);
+    match table.get(first) {
+        Some(at) if place % 2 == 1 && at < table.len() && first.boxes.has(0) => {
+            table.insert_next(at, 0, square(place), 1, depth)
+        }
+        _ => table.insert(key, depth),
     }
-    table.insert_next(0, 0, square(place), 1, depth)
 }
 
 /// Returns whether the first state keeps its place and its depth if it is entered again, which

@@ -16,9 +16,6 @@ loop-index-preserved-then-not-expanded c =
       laid = c.loop-index.invariant.laid;
     }
 
-pub key-requires-clause-few : goal.key-requires-clause-few
-key-requires-clause-few c = λ key at. (c.requires.keys c.loop-index.index key (rw (← c.self.view_is) at)).1
-
 pub open_push-requires-clause-key : goal.open_push-requires-clause-key
 open_push-requires-clause-key c = (c.requires.keys c.loop-index.index c.in_ok-key.key (rw (← c.self.view_is) c.in_ok-key.ensures)).0
 
