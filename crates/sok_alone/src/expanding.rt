@@ -76,7 +76,7 @@ fn expand(
     if !is_expanded(&known.inner[index].reason) {
         return Ok(Met::On);
     }
-    let key = known.table.key(alloc, &mut workspace.squares, index)?;
+    let key = known.table.key(alloc, index)?;
     workspace.expansion.open(setting.board, &key)?;
     let scene = &mut workspace.expansion.scene;
     let pushes = &workspace.expansion.pushes;

@@ -2,19 +2,17 @@
 
 ghost use Rattle.sok_alone.specs.Workspace.{IsWorkspace};
 
-use sok_board::area::Sq;
 use sok_board::board::Board;
 use sok_state::expansion::Expansion;
 use sok_state::normalizer::Normalizer;
 use std::alloc::Global;
 
-/// Buffers that searches of some boxes alone reuse: the normalizer that makes keys, the state that
-/// is expanded, and a list for its boxes.
+/// Buffers that searches of some boxes alone reuse: the normalizer that makes keys, and the state
+/// that is expanded.
 #[derive(Drop)]
 pub(crate) struct Workspace {
     pub(crate) normalizer: Normalizer,
     pub(crate) expansion: Expansion,
-    pub(crate) squares: Vec<Sq>,
 }
 
 impl Workspace {
@@ -25,7 +23,6 @@ impl Workspace {
         Workspace {
             normalizer: Normalizer::new(board),
             expansion: Expansion::new(alloc, board),
-            squares: Vec::new(alloc),
         }
     }
 }

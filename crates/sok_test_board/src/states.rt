@@ -11,7 +11,7 @@ use sok_sketch::sketch;
 use sok_state::key::Key;
 use sok_state::legal::pushes;
 use sok_state::push::Push;
-use sok_state::scene::Scene;
+use sok_state::stepping::after;
 use std::alloc::Global;
 use std::process::Abort;
 use std::test::Fail;
@@ -90,15 +90,11 @@ fn has_pushes(
 fn next(alloc: Global, board: &Board, state: &Key) -> Result<Option<Key>, Fail>
     requires { IsKey board.now state.now }
 {
-    // The clauses of this call state that the boxes are not too many.
-    let _boxes = state.boxes.list();
     let legal = pushes(alloc, board, state)?;
     if legal.len() == 0 {
         return Ok(None);
     }
-    let mut scene = Scene::new(alloc, board);
-    scene.open(board, state)?;
-    Ok(Some(scene.after(alloc, board, state, legal[0])?))
+    Ok(Some(after(alloc, board, state, legal[0])?))
 }
 
 /// Returns whether the state after the first legal push has these boxes and this least square.

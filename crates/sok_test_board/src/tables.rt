@@ -33,16 +33,13 @@ fn has_key(
     requires wide { squares ≤ table.now.room }
     requires exist { All (λ square. square < squares) key.now.boxes }
 {
-    // A key has few boxes, so the one that is read back has few.
-    let _boxes = key.boxes.list();
     let Some(at) = table.get(key) else {
         return Ok(false);
     };
     if at >= table.len() {
         return Ok(false);
     }
-    let mut list = Vec::new(alloc);
-    let found = table.key(alloc, &mut list, at)?;
+    let found = table.key(alloc, at)?;
     Ok(at == index && table.depth(at) == depth && found == *key)
 }
 

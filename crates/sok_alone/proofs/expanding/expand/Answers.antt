@@ -20,9 +20,6 @@ returns-then-not-is_expanded-clause-tells g c =
           c.requires.1.1.1.0;
     }
 
-pub key-requires-clause-few : goal.key-requires-clause-few
-key-requires-clause-few g c = λ key at. (c.requires.1.0.of_board.keys c.args.index key at).1
-
 pub open-requires-clause-key : goal.open-requires-clause-key
 open-requires-clause-key g c = (c.requires.1.0.of_board.keys c.args.index c.in_ok-key.key c.in_ok-key.ensures).0
 
