@@ -1,6 +1,6 @@
 //! A table of lifts.
 
-ghost use Rattle.std.specs.Prelude.{◌≡◌, ◌≤◌, IfOk};
+ghost use Rattle.std.specs.Prelude.{◌≡◌, ◌<◌, ◌≤◌, ◌↔◌, IfOk, IsTrue};
 ghost use Rattle.sok_board.specs.Limits.{square_limit};
 ghost use Rattle.sok_board.specs.Area.{BoardView, IsArea};
 ghost use Rattle.sok_lift.specs.Numbers.{AreLifts, entry_in, lift_in, pairs_in, place_in};
@@ -65,6 +65,13 @@ impl Lifts {
             }
         }
         Ok(Lifts::none(alloc))
+    }
+
+    /// Returns whether a table was made.
+    pub fn is_made(&self) -> bool
+        ensures { IsTrue result ↔ 0 < self.now.squares }
+    {
+        self.squares > 0
     }
 
     /// Returns the lift of two boxes, in any order, and the player.
