@@ -1,5 +1,5 @@
 -- Which pushes of a state are kept if some of its boxes are a fence.
-use Rattle.std.specs.Prelude.{ℕ, ◌≡◌, ◌<◌, ◌≤◌, ◌⊎◌, List, Some, false, Contains, length}
+use Rattle.std.specs.Prelude.{ℕ, Bool, ◌≡◌, ◌<◌, ◌≤◌, ◌⊎◌, List, Some, false, Contains, length}
 use Rattle.sok_rules.specs.declared.cell.Dir.{Dir}
 use Rattle.sok_rules.specs.Squares.{holds, is_goal}
 use Rattle.sok_board.specs.Area.{BoardView, beside, spot_of}
@@ -22,6 +22,10 @@ pub record IsLone (b : BoardView) (key : Key) (lone : Lone) : Type 0 where
   pub among : (n : ℕ) → Contains lone.boxes.items n → Contains key.boxes n
   pub few : length lone.boxes.items ≤ box_limit
   pub reached : ReachesFrom b key.least lone.boxes.items lone.reached
+
+-- whether a square of the area is in a set
+abbrev pub is_in : BoardView → List ℕ → ℕ → Bool
+is_in b set n = has set (spot_of b n)
 
 -- a push of a fence's box is blocked by a box that stays, can be made now, or leads to no solution
 abbrev pub IsShut : BoardView → Key → List ℕ → ℕ → ℕ → ℕ → Type 0

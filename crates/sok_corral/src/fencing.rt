@@ -9,10 +9,12 @@ ghost use Rattle.sok_corral.specs.Fencing.{AreKept, IsFenceScratch};
 
 use crate::guessing::{Candidate, guess};
 use crate::lone::Lone;
+use crate::patience::Patience;
 use crate::testing::is_fence;
 use sok_board::area::Sq;
 use sok_board::board::Board;
 use sok_distance::setting::Setting;
+use sok_field::field::Field;
 use sok_region::layout::Layout;
 use sok_rules::fault::Memory;
 use sok_state::key::Key;
@@ -26,21 +28,23 @@ pub struct FenceScratch {
     pub(crate) layout: Layout,
     pub(crate) lone: Lone,
     pub(crate) candidate: Candidate,
-    /// The boxes of the guessed fence that has the fewest pushes.
-    pub(crate) best: Vec<Sq>,
+    /// The squares of the guessed fence that has the fewest pushes.
+    pub(crate) best: Field,
+    pub(crate) patience: Patience,
 }
 
 impl FenceScratch {
-    /// Makes buffers for the states of a board.
-    pub fn new(alloc: Global, board: &Board) -> FenceScratch
-        ensures { IsFenceScratch board.now result }
+    /// Makes buffers for the states of a board. Errors: `Memory`.
+    pub fn new(alloc: Global, board: &Board) -> Result<FenceScratch, Memory>
+        ensures { IfOk result (IsFenceScratch board.now) }
     {
-        FenceScratch {
+        Ok(FenceScratch {
             layout: Layout::new(alloc, board),
             lone: Lone::new(alloc),
-            candidate: Candidate::new(alloc),
-            best: Vec::new(alloc),
-        }
+            candidate: Candidate::new(),
+            best: Field::new(),
+            patience: Patience::new(alloc, board.squares())?,
+        })
     }
 
     /// Of all legal pushes of a state, keeps those of a fence's boxes, if one is found that has fewer.

@@ -5,6 +5,7 @@ ghost use Rattle.sok_board.specs.Area.{IsAccepted};
 ghost use Rattle.sok_region.specs.Layouts.{IsLaidOut};
 ghost use Rattle.sok_state.specs.declared.key.Key.{Key};
 ghost use Rattle.sok_state.specs.Keys.{IsKey};
+ghost use Rattle.sok_state.specs.Pushes.{IsLegal};
 ghost use Rattle.sok_corral.specs.Fencing.{IsFenceScratch, IsLone};
 ghost use Rattle.sok_corral.specs.Guessing.{NamesSquares};
 
@@ -17,13 +18,12 @@ use sok_board::board::Board;
 use sok_distance::setting::Setting;
 use sok_field::drawing;
 use sok_field::field::{self, Field};
-use sok_region::layout::Layout;
+use sok_region::layout::{Layout, put};
 use sok_rules::cell::{Dir, Spot};
 use sok_rules::fault::Memory;
 use sok_state::key::Key;
 use sok_state::push::Push;
 use sok_state::scene::Scene;
-use std::alloc::Global;
 
 /// The maximum number of boxes of a fence. Larger ones are rare, and looking for them takes long.
 const FENCE_BOXES: usize = 8;
@@ -43,13 +43,18 @@ enum Finding {
     Ajar(Sq, Sq),
 }
 
-/// Boxes that are collected to be a fence.
+/// Boxes that are collected to be a fence, and what is known of the state.
 #[derive(Drop)]
 pub(crate) struct Candidate {
-    pub(crate) boxes: Vec<Sq>,
+    /// The squares of the boxes.
+    chosen: Field,
+    /// How many they are.
+    count: usize,
+    /// The boxes that can be in no fence of the state.
+    loose: Field,
     /// The part of the area that was flooded last.
     part: Field,
-    /// The squares beside boxes in each part that was flooded for this state.
+    /// All parts that were flooded for the state.
     parts: Field,
 }
 
@@ -65,7 +70,7 @@ enum Growth {
 }
 
 /// Looks for a fence whose boxes have fewer pushes than the state. Returns whether one may be found,
-/// and leaves its boxes in `scratch.best`.
+/// and leaves the squares of its boxes in `scratch.best`.
 pub(crate) fn guess(
     scratch: &mut FenceScratch,
     setting: &Setting<'_>,
@@ -76,70 +81,26 @@ pub(crate) fn guess(
     requires accepted { IsAccepted setting.now.board.now }
     requires state { IsKey setting.now.board.now key.now }
     requires ready { IsFenceScratch setting.now.board.now scratch.old }
+    requires legal { All (IsLegal setting.now.board.now key.now) pushes.now }
     ensures { OnOk result (IsFenceScratch setting.now.board.now scratch.new) }
 {
     let mut fewest = pushes.len();
-    scratch.candidate.parts.clear();
+    scratch.candidate.begin(setting, scene, pushes);
     for from in key.boxes.list() {
-        let Some(start) = part_beside(setting.board, scene, &scratch.candidate.parts, *from) else {
+        let Some(start) = scratch.candidate.start_beside(setting.board, scene, *from) else {
             continue;
         };
-        if is_loose(setting, scene, *from) {
+        if !scratch.patience.lets(start) {
             continue;
         }
         let found = guess_around(scratch, setting, key, scene, pushes, start, fewest)?;
         if let Some(fewer) = found {
             fewest = fewer;
-            scratch.best.clear();
-            scratch.best.extend_from_slice(&scratch.candidate.boxes)?;
+            scratch.best.copy_from(&scratch.candidate.chosen);
+            scratch.patience.regain(start);
         }
     }
     Ok(fewest < pushes.len())
-}
-
-/// Returns a square beside a box that is free, that the player can't reach, and that is not in `parts`.
-fn part_beside(board: &Board, scene: &Scene, parts: &Field, square: Sq) -> Option<Sq>
-    requires accepted { IsAccepted board.now }
-    requires exists { square < length board.now.area }
-    ensures { IfSome result (λ start. start < length board.now.area) }
-{
-    for dir in DIRS {
-        if let Some(start) = board.neighbour(square, dir)
-            && is_shut_off(board, scene, start)
-            && !has(board, parts, start)
-        {
-            return Some(start);
-        }
-    }
-    None
-}
-
-/// Returns whether a square is free and the player can't reach it.
-fn is_shut_off(board: &Board, scene: &Scene, square: Sq) -> bool
-    requires accepted { IsAccepted board.now }
-    requires exists { square < length board.now.area }
-{
-    !has(board, &scene.reached, square) && has(board, scene.layout.free(), square)
-}
-
-/// Returns whether the player can push a box to a square that he reaches. Such a box is in no fence,
-/// unless it is jammed there.
-fn is_loose(setting: &Setting<'_>, scene: &Scene, square: Sq) -> bool
-    requires accepted { IsAccepted setting.now.board.now }
-    requires exists { square < length setting.now.board.now.area }
-{
-    let board = setting.board;
-    for dir in DIRS {
-        if let Some(man) = board.neighbour(square, dir.opposite())
-            && let Some(to) = board.neighbour(square, dir)
-            && has(board, &scene.reached, man)
-            && has(board, &scene.reached, to)
-            && !setting.distances.stuck(to)
-        {
-            return true;
-        }
-    }
-    false
 }
 
 /// Looks for a fence around the part of the area that has a square. Returns how many pushes its boxes
@@ -156,22 +117,23 @@ fn guess_around(
     requires accepted { IsAccepted setting.now.board.now }
     requires state { IsKey setting.now.board.now key.now }
     requires ready { IsFenceScratch setting.now.board.now scratch.old }
+    requires legal { All (IsLegal setting.now.board.now key.now) pushes.now }
     requires exists { start < length setting.now.board.now.area }
     ensures { OnOk result (IsFenceScratch setting.now.board.now scratch.new) }
 {
     let boxes = key.boxes.list();
-    scratch.candidate.boxes.clear();
-    let mut growth = scratch.candidate.shut(setting, boxes, scene, start)?;
+    scratch.candidate.clear();
+    let mut growth = scratch.candidate.shut(setting.board, boxes, scene, start);
     'rounds: for _ in 0..ROUNDS {
-        if !matches!(growth, Growth::Grown) || scratch.candidate.boxes.len() > FENCE_BOXES {
+        if !matches!(growth, Growth::Grown) || scratch.candidate.count > FENCE_BOXES {
             return Ok(None);
         }
-        let count = count(&scratch.candidate.boxes, pushes);
+        let count = count(setting.board, &scratch.candidate.chosen, pushes);
         if count >= fewest {
             return Ok(None);
         }
         let (lone, layout) = (&mut scratch.lone, &mut scratch.layout);
-        lone.lay(setting.board, key, &scratch.candidate.boxes, layout)?;
+        lone.lay(setting.board, key, &scratch.candidate.chosen, layout)?;
         match look(setting, scene, lone, layout, &lone.boxes) {
             Finding::Shut => {
                 if !is_astray(setting.board, boxes, &scratch.lone.reached) {
@@ -182,118 +144,157 @@ fn guess_around(
             Finding::Ajar(first, second) => {
                 growth = scratch
                     .candidate
-                    .grow(setting, boxes, scene, first, second)?;
+                    .grow(setting.board, boxes, scene, first, second);
             }
         }
     }
     Ok(None)
 }
 
-/// Returns how many pushes are those of some boxes.
-fn count(boxes: &[Sq], pushes: &[Push]) -> usize {
-    pushes
-        .iter()
-        .filter(|push| boxes.contains(&push.from))
-        .count()
+/// Returns how many pushes are those of boxes in a set.
+fn count(board: &Board, boxes: &Field, pushes: &[Push]) -> usize
+    requires accepted { IsAccepted board.now }
+    requires legal { (key : Key) × All (IsLegal board.now key) pushes.now }
+{
+    let mut count = 0;
+    for push in pushes {
+        if has(board, boxes, push.from) {
+            count += 1;
+        }
+    }
+    count
 }
 
 impl Candidate {
     /// Makes an empty candidate.
-    pub(crate) fn new(alloc: Global) -> Candidate {
+    pub(crate) fn new() -> Candidate {
         Candidate {
-            boxes: Vec::new(alloc),
+            chosen: Field::new(),
+            count: 0,
+            loose: Field::new(),
             part: Field::new(),
             parts: Field::new(),
         }
     }
 
-    /// Adds the boxes that shut the player out from a square, or else those of another one.
-    fn grow(
-        &mut self,
-        setting: &Setting<'_>,
-        boxes: &[Sq],
-        scene: &Scene,
-        first: Sq,
-        second: Sq,
-    ) -> Result<Growth, Memory>
+    /// Begins with a state that has these pushes. A box that can be pushed to a square that the
+    /// player reaches is in no fence, unless it is jammed there.
+    fn begin(&mut self, setting: &Setting<'_>, scene: &Scene, pushes: &[Push])
         requires accepted { IsAccepted setting.now.board.now }
-        requires exist { All (λ n. n < length setting.now.board.now.area) boxes.now }
-        requires first { first < length setting.now.board.now.area }
-        requires second { second < length setting.now.board.now.area }
+        requires legal { (key : Key) × All (IsLegal setting.now.board.now key) pushes.now }
     {
-        let growth = self.shut(setting, boxes, scene, first)?;
-        if second == first || !matches!(growth, Growth::Same) {
-            return Ok(growth);
+        let board = setting.board;
+        self.parts.clear();
+        self.loose.clear();
+        for push in pushes {
+            if let Some(to) = board.neighbour(push.from, push.dir)
+                && has(board, &scene.reached, to)
+                && !setting.distances.stuck(to)
+            {
+                put(&mut self.loose, board, push.from);
+            }
         }
-        self.shut(setting, boxes, scene, second)
+    }
+
+    /// Removes the boxes.
+    fn clear(&mut self) {
+        self.chosen.clear();
+        self.count = 0;
+    }
+
+    /// Returns a square beside a box that may be in a fence: it is free, the player can't reach it,
+    /// and it is in no part that was flooded for the state.
+    fn start_beside(&self, board: &Board, scene: &Scene, square: Sq) -> Option<Sq>
+        requires accepted { IsAccepted board.now }
+        requires exists { square < length board.now.area }
+        ensures { IfSome result (λ start. start < length board.now.area) }
+    {
+        if has(board, &self.loose, square) {
+            return None;
+        }
+        for dir in DIRS {
+            if let Some(start) = board.neighbour(square, dir)
+                && !has(board, &scene.reached, start)
+                && has(board, scene.layout.free(), start)
+                && !has(board, &self.parts, start)
+            {
+                return Some(start);
+            }
+        }
+        None
+    }
+
+    /// Adds the boxes that shut the player out from a square, or else those of another one.
+    fn grow(&mut self, board: &Board, boxes: &[Sq], scene: &Scene, first: Sq, second: Sq) -> Growth
+        requires accepted { IsAccepted board.now }
+        requires exist { All (λ n. n < length board.now.area) boxes.now }
+        requires first { first < length board.now.area }
+        requires second { second < length board.now.area }
+    {
+        let growth = self.shut(board, boxes, scene, first);
+        if second == first || !matches!(growth, Growth::Same) {
+            return growth;
+        }
+        self.shut(board, boxes, scene, second)
     }
 
     /// Adds the boxes that shut the player out from a square: the one there, or those beside the part
     /// of the area that has it.
-    fn shut(
-        &mut self,
-        setting: &Setting<'_>,
-        boxes: &[Sq],
-        scene: &Scene,
-        square: Sq,
-    ) -> Result<Growth, Memory>
-        requires accepted { IsAccepted setting.now.board.now }
-        requires exist { All (λ n. n < length setting.now.board.now.area) boxes.now }
-        requires exists { square < length setting.now.board.now.area }
+    fn shut(&mut self, board: &Board, boxes: &[Sq], scene: &Scene, square: Sq) -> Growth
+        requires accepted { IsAccepted board.now }
+        requires exist { All (λ n. n < length board.now.area) boxes.now }
+        requires exists { square < length board.now.area }
     {
         let free = scene.layout.free();
-        if !has(setting.board, free, square) {
-            return self.add(setting, scene, square);
+        if !has(board, free, square) {
+            return self.add(board, square);
         }
-        drawing::flood_from(&mut self.part, free, setting.board, square);
+        drawing::flood_from(&mut self.part, free, board, square);
+        self.parts.join(&self.part);
         let mut growth = Growth::Same;
         for one in boxes {
-            if self.mark(setting.board, *one) && !matches!(growth, Growth::Loose) {
-                match self.add(setting, scene, *one)? {
+            if self.is_beside(board, *one) {
+                match self.add(board, *one) {
                     Growth::Same => {}
-                    added => growth = added,
+                    Growth::Loose => return Growth::Loose,
+                    Growth::Grown => growth = Growth::Grown,
                 }
             }
         }
-        Ok(growth)
+        growth
     }
 
     /// Adds a box, unless it is there or in no fence.
-    fn add(&mut self, setting: &Setting<'_>, scene: &Scene, square: Sq) -> Result<Growth, Memory>
-        requires accepted { IsAccepted setting.now.board.now }
-        requires exists { square < length setting.now.board.now.area }
+    fn add(&mut self, board: &Board, square: Sq) -> Growth
+        requires accepted { IsAccepted board.now }
+        requires exists { square < length board.now.area }
     {
-        if self.boxes.contains(&square) {
-            return Ok(Growth::Same);
+        if has(board, &self.loose, square) {
+            return Growth::Loose;
         }
-        if is_loose(setting, scene, square) {
-            return Ok(Growth::Loose);
+        if has(board, &self.chosen, square) {
+            return Growth::Same;
         }
-        self.boxes.push(square)?;
-        Ok(Growth::Grown)
+        put(&mut self.chosen, board, square);
+        self.count = self.count.saturating_add(1);
+        Growth::Grown
     }
 
-    /// Marks the squares of the part that are beside a box. Returns whether there are any.
-    fn mark(&mut self, board: &Board, square: Sq) -> bool
+    /// Returns whether a box is beside the part.
+    fn is_beside(&self, board: &Board, square: Sq) -> bool
         requires accepted { IsAccepted board.now }
         requires exists { square < length board.now.area }
     {
         let Spot { row, col } = board.spot(square);
-        let left = self.mark_at(row, col.wrapping_sub(1));
-        let up = self.mark_at(row.wrapping_sub(1), col);
-        let right = self.mark_at(row, col.wrapping_add(1));
-        let down = self.mark_at(row.wrapping_add(1), col);
-        left || up || right || down
+        self.is_in_part(row, col.wrapping_sub(1))
+            || self.is_in_part(row.wrapping_sub(1), col)
+            || self.is_in_part(row, col.wrapping_add(1))
+            || self.is_in_part(row.wrapping_add(1), col)
     }
 
-    /// Marks a square by its row and column if it is in the part. Returns whether it is.
-    fn mark_at(&mut self, row: u32, col: u32) -> bool {
-        let spot = Spot { row, col };
-        let is_there = row < field::ROWS as u32 && col < field::COLUMNS && self.part.has(spot);
-        if is_there {
-            self.parts.put(spot);
-        }
-        is_there
+    /// Returns whether the part has the square in this row and column.
+    fn is_in_part(&self, row: u32, col: u32) -> bool {
+        col < field::COLUMNS && self.part.has(Spot { row, col })
     }
 }
 

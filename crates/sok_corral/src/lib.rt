@@ -6,6 +6,7 @@
 //! | `fencing` | which pushes of a state are kept |
 //! | `guessing` | looking for boxes that may be a fence (private) |
 //! | `lone` | some boxes of a state, alone on the board (private) |
+//! | `patience` | where fences are looked for in vain (private) |
 //! | `sets` | the squares of the area in a set (private) |
 //! | `testing` | whether boxes are a fence (private) |
 #![tactic(auto)]
@@ -13,5 +14,6 @@
 pub mod fencing;
 mod guessing;
 mod lone;
+mod patience;
 mod sets;
 mod testing;

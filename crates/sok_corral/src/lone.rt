@@ -1,13 +1,12 @@
 //! Some boxes of a state, alone on the board.
 
-ghost use Rattle.std.specs.Prelude.{ℕ, List, ◌≤◌, OnOk, length};
-ghost use Rattle.std.specs.List.Sorted.{IsStrictlyIncreasing};
+ghost use Rattle.std.specs.Prelude.{ℕ, List, ◌≡◌, ◌<◌, All, OnOk, filter, length};
 ghost use Rattle.sok_board.specs.Area.{IsAccepted};
 ghost use Rattle.sok_region.specs.Layouts.{IsLaidOut};
 ghost use Rattle.sok_state.specs.Keys.{IsKey};
-ghost use Rattle.sok_alone.specs.Losses.{AreChosen};
-ghost use Rattle.sok_corral.specs.Fencing.{IsLone};
+ghost use Rattle.sok_corral.specs.Fencing.{IsLone, is_in};
 
+use crate::sets::has;
 use sok_board::area::Sq;
 use sok_board::board::Board;
 use sok_field::drawing;
@@ -33,12 +32,12 @@ impl Lone {
         }
     }
 
-    /// Lays out those boxes of a state that stand on `squares`.
+    /// Lays out those boxes of a state that are in a set of squares.
     pub(crate) fn lay(
         &mut self,
         board: &Board,
         key: &Key,
-        squares: &[Sq],
+        set: &Field,
         layout: &mut Layout,
     ) -> Result<(), Memory>
         requires accepted { IsAccepted board.now }
@@ -47,22 +46,22 @@ impl Lone {
         ensures lone { OnOk result (IsLone board.now key.now self.new) }
         ensures laid { OnOk result (IsLaidOut board.now self.new.boxes.items layout.new) }
     {
-        choose(key.boxes.list(), squares, &mut self.boxes)?;
+        choose(board, key.boxes.list(), set, &mut self.boxes)?;
         layout.lay(board, &self.boxes)?;
         drawing::flood_from(&mut self.reached, layout.free(), board, key.least);
         Ok(())
     }
 }
 
-/// Lists those boxes that stand on `squares`.
-fn choose(boxes: &[Sq], squares: &[Sq], list: &mut Vec<Sq>) -> Result<(), Memory>
-    requires { IsStrictlyIncreasing boxes.now }
-    ensures chosen { OnOk result (AreChosen boxes.now squares.now list.new.items) }
-    ensures few { OnOk result (length list.new.items ≤ length boxes.now) }
+/// Lists those boxes that are in a set of squares.
+fn choose(board: &Board, boxes: &[Sq], set: &Field, list: &mut Vec<Sq>) -> Result<(), Memory>
+    requires accepted { IsAccepted board.now }
+    requires exist { All (λ square. square < length board.now.area) boxes.now }
+    ensures { OnOk result (list.new.items ≡ filter (is_in board.now set.now) boxes.now) }
 {
     list.clear();
     for square in boxes {
-        if squares.contains(square) {
+        if has(board, set, *square) {
             list.push(*square)?;
         }
     }

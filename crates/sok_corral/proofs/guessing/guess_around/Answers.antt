@@ -4,4 +4,4 @@ use Rattle.sok_corral.proofs.guessing.guess_around.Goals as goal
 
 pub look-requires-clause-there : goal.look-requires-clause-there
 look-requires-clause-there c =
-    subst (All (Contains c.lay.new.self.boxes.items)) (sym c.deref-in-rounds-2.ensures.value) (All-contains_itself c.lay.new.self.boxes.items)
+    subst (All (Contains c.lay.new.self.boxes.items)) (sym c.deref.ensures.value) (All-contains_itself c.lay.new.self.boxes.items)

@@ -1,18 +1,19 @@
-use Rattle.std.proofs.Common.{ap, arith, All, Contains, List, ◌<◌, length, subst, sym, ℕ}
+use Rattle.std.proofs.Common.{◌≡◌, ◌∙◌, ap, arith, All, Contains, List, ◌<◌, filter, length, subst, sym, ℕ}
 use Rattle.sok_field.specs.Numbers.{Draws}
 use Rattle.sok_region.specs.Layouts.{IsLaidOut}
 use Rattle.sok_region.specs.Regions.{IsPlaced}
 use Rattle.sok_region.proofs.Regions.{drawn-same, through-exact}
-use Rattle.sok_alone.specs.Losses.{AreChosen}
-use Rattle.sok_corral.proofs.Laying.{among-chosen, placed-chosen}
+use Rattle.sok_corral.specs.Fencing.{is_in}
+use Rattle.sok_corral.proofs.Laying.{among-chosen, few-chosen, placed-chosen}
 use Rattle.sok_corral.proofs.lone.Lone.lay.Goals as goal
 use Rattle.sok_corral.proofs.lone.Lone.lay.Goals.{In_ok-choose, In_ok-lay}
 
-chosen_in : (c : In_ok-choose) → AreChosen c.args.key.now.boxes c.args.squares.now c.choose.new.list.items
-chosen_in c = subst (λ (boxes : List ℕ). AreChosen boxes c.args.squares.now c.choose.new.list.items) c.list.ensures.list c.in_ok-choose.ensures.chosen
+chosen_in : (c : In_ok-choose) → c.choose.new.list.items ≡ filter (is_in c.args.board.now c.args.set.now) c.args.key.now.boxes
+chosen_in c = c.in_ok-choose.ensures ∙ ap (filter (is_in c.args.board.now c.args.set.now)) c.list.ensures.list
 
 placed_in : (c : In_ok-choose) → IsPlaced c.args.board.now c.choose.new.list.items c.args.key.now.least
-placed_in c = placed-chosen c.args.board.now c.args.key.now.least c.args.key.now.boxes c.args.squares.now c.choose.new.list.items c.requires.state.is.placed (chosen_in c)
+placed_in c = subst (λ (boxes : List ℕ). IsPlaced c.args.board.now boxes c.args.key.now.least) (sym (chosen_in c))
+    (placed-chosen c.args.board.now c.args.key.now.least c.args.key.now.boxes (is_in c.args.board.now c.args.set.now) c.requires.state.is.placed)
 
 laid_in : (c : In_ok-lay) → IsLaidOut c.args.board.now c.choose.new.list.items c.lay.new.self
 laid_in c = subst (λ (boxes : List ℕ). IsLaidOut c.args.board.now boxes c.lay.new.self) c.deref.ensures.value c.in_ok-lay.ensures.laid
@@ -44,8 +45,14 @@ returns-clause-lone c =
     record {
       state = c.requires.state;
       placed = placed;
-      among = among-chosen b c.args.key.now.least c.args.key.now.boxes c.args.squares.now boxes c.requires.state.is.placed (chosen_in (at.In_ok-choose));
-      few = let few = c.list.ensures.few in let is = ap length c.list.ensures.list in let less = c.in_ok-choose.ensures.few in omega (arith, few, is, less);
+      among = λ n there. among-chosen b c.args.key.now.least c.args.key.now.boxes (is_in b c.args.set.now) c.requires.state.is.placed n
+          (subst (λ (chosen : List ℕ). Contains chosen n) (chosen_in (at.In_ok-choose)) there);
+      few =
+          let few = c.list.ensures.few in
+          let is = ap length c.list.ensures.list in
+          let chosen = ap length (chosen_in (at.In_ok-choose)) in
+          let less = few-chosen (is_in b c.args.set.now) c.args.key.now.boxes in
+          omega (arith, few, is, chosen, less);
       reached = drawn-same b boxes c.args.key.now.least c.free.result.now c.flood_from.new.seen c.requires.accepted.proper c.requires.accepted.numbered placed drawn
           c.flood_from.ensures;
     }
