@@ -1,13 +1,13 @@
--- Words of public contracts
+-- Definitions that public contracts use
 pub mod Faults
 pub mod Findings
+pub mod Halted
 pub mod Limits
 pub mod Outcomes
--- Words of the proofs alone
+pub mod Searches
+-- Definitions for the proofs alone
 pub mod Buckets
 pub mod Finished
-pub mod Halted
-pub mod Searches
 pub mod Steps
 pub mod Walkthroughs
 pub mod PushScratches

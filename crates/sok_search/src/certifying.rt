@@ -36,14 +36,12 @@ pub(crate) fn certify<C: Entries>(
         (progress_of search.now) (length search.now.table.entries)) }
 {
     let mut matching = Matching::new(alloc, setting)?;
-    let mut squares = Vec::new(alloc);
     let mut boxes = Vec::new(alloc);
     for index in 0..search.table.len() {
         take_entry(
             alloc,
             setting,
             &mut matching,
-            &mut squares,
             &mut boxes,
             claim,
             search,
@@ -54,12 +52,11 @@ pub(crate) fn certify<C: Entries>(
     Ok(())
 }
 
-/// Hands over the entry of the state at an index. The two lists are buffers for its boxes.
+/// Hands over the entry of the state at an index. `boxes` is a buffer.
 fn take_entry<C: Entries>(
     alloc: Global,
     setting: &Setting<'_>,
     matching: &mut Matching,
-    squares: &mut Vec<Sq>,
     boxes: &mut Vec<u32>,
     claim: Claim,
     search: &Search,
@@ -77,7 +74,7 @@ fn take_entry<C: Entries>(
         (λ taken. C.took taken entries.new) setting.now.board.now claim
         (progress_of search.now) index) }
 {
-    let (key, depth, note) = state_at(alloc, search, squares, index)?;
+    let (key, depth, note) = state_at(alloc, search, index)?;
     let reason = reason_of(
         alloc,
         setting,
@@ -106,18 +103,13 @@ fn widen(numbers: &mut Vec<u32>, squares: &[Sq]) -> Result<(), Memory>
     Ok(())
 }
 
-/// Returns the state at an index. Its boxes are listed in `squares` first.
-fn state_at(
-    alloc: Global,
-    search: &Search,
-    squares: &mut Vec<Sq>,
-    index: usize,
-) -> Result<(Key, u32, Note), Memory>
-    requires search { (b : BoardView) × IsAccepted b × IsSearching b (progress_of search.now) }
+/// Returns the state at an index.
+fn state_at(alloc: Global, search: &Search, index: usize) -> Result<(Key, u32, Note), Memory>
+    requires search { (b : BoardView) × IsSearching b (progress_of search.now) }
     requires within { index < length search.now.table.entries }
     ensures { IfOk result
         (λ told. IsState (progress_of search.now) index told.0 told.1 told.2) }
 {
-    let key = search.table.key(alloc, squares, index)?;
+    let key = search.table.key(alloc, index)?;
     Ok((key, search.table.depth(index), search.notes[index]))
 }

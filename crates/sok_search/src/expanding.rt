@@ -18,7 +18,6 @@ use crate::push_scratch::PushScratch;
 use crate::reaching::reach;
 use crate::search::Search;
 use crate::stop::Stop;
-use sok_board::area::Sq;
 use sok_board::board::Board;
 use sok_corral::fencing::FenceScratch;
 use sok_distance::setting::Setting;
@@ -40,7 +39,6 @@ pub(crate) struct Scratch {
     pushes: Vec<Push>,
     pub(crate) push_scratch: PushScratch,
     pub(crate) fences: FenceScratch,
-    pub(crate) squares: Vec<Sq>,
     /// Whether the lifts are yet to be made.
     unlifted: bool,
 }
@@ -65,8 +63,7 @@ impl Scratch {
             index: 0,
             pushes: Vec::new(alloc),
             push_scratch,
-            fences: FenceScratch::new(alloc, setting.board),
-            squares: Vec::new(alloc),
+            fences: FenceScratch::new(alloc, setting.board)?,
             unlifted: !whole,
         })
     }

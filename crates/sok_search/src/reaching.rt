@@ -2,7 +2,7 @@
 
 ghost use Rattle.std.specs.Prelude.{◌≡◌, ◌<◌, ◌≤◌, ◌+◌, ◌^◌, IfOk, IfSome, IsTrue, OnOk, Some, length};
 ghost use Rattle.sok_alone.specs.Losses.{IsLostBy, KeepsLosses, KeepsPlaces, losses_of};
-ghost use Rattle.sok_board.specs.Area.{IsAccepted, beside};
+ghost use Rattle.sok_board.specs.Area.{IsAccepted};
 ghost use Rattle.sok_board.specs.BoxSets.{put_in_order};
 ghost use Rattle.sok_state.specs.Keys.{IsKey};
 ghost use Rattle.sok_state.specs.Tables.{LacksNext};
@@ -60,30 +60,33 @@ fn approach(
 }
 
 /// Looks for a loss that makes the state after a push a deadlock, and returns its place. It does not look if
-/// the pushed box reaches no goal from there, which is a deadlock as well.
+/// the pushed box reaches no goal from there, which is a deadlock as well. If `pairs` is false, it looks at
+/// groups of three boxes alone.
 fn ask(
     alloc: Global,
     setting: &Setting<'_>,
     losses: &mut Losses,
     known: usize,
     key: &Key,
-    push: Push,
-    to: Sq,
+    step: Step,
+    pairs: bool,
 ) -> Result<Option<u32>, Memory>
     requires accepted { IsAccepted setting.now.board.now }
     requires state { IsKey setting.now.board.now key.now }
-    requires legal { IsLegal setting.now.board.now key.now push }
-    requires ahead { beside setting.now.board.now push.from push.dir ≡ Some to }
+    requires step { IsStep setting.now.board.now key.now step }
     requires losses { KeepsLosses setting.now.board.now losses.old }
     ensures losses { OnOk result (KeepsLosses setting.now.board.now losses.new) }
     ensures kept { OnOk result (KeepsPlaces (losses_of losses.old) (losses_of losses.new)) }
-    ensures lost { IfOk result (λ found. IfSome found (IsLostBy setting.now.board.now push.from
-        (put_in_order push.from to key.now.boxes) (losses_of losses.new))) }
+    ensures lost { IfOk result (λ found. IfSome found (IsLostBy setting.now.board.now step.push.from
+        (put_in_order step.push.from step.to key.now.boxes) (losses_of losses.new))) }
 {
+    let Step { push, to, .. } = step;
     if setting.distances.stuck(to) {
         return Ok(None);
     }
-    losses.loss_after(alloc, setting, known, &key.boxes, push.from, push.dir, to, true)
+    losses.loss_after(
+        alloc, setting, known, &key.boxes, push.from, push.dir, to, pairs,
+    )
 }
 
 /// Returns whether a new state at `depth` can be left out: its standing shows that no solution through
@@ -194,8 +197,9 @@ fn arrive(
         return Ok(());
     }
     let known = search.table.len();
+    let pairs = search.aim.whole || !push_scratch.lifts.is_made();
     let losses = &mut search.losses;
-    let lost = ask(alloc, setting, losses, known, key, push, to)?;
+    let lost = ask(alloc, setting, losses, known, key, step, pairs)?;
     if !search.aim.whole && lost.is_some() {
         return Ok(());
     }

@@ -47,7 +47,7 @@ fn visit(
     if is_beaten(search.best, depth, bound) {
         return Ok(());
     }
-    let key = search.table.key(alloc, &mut scratch.squares, index)?;
+    let key = search.table.key(alloc, index)?;
     if is_solved(setting.board, &key.boxes) {
         search.best = Some(depth);
         return Ok(());

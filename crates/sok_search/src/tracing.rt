@@ -1,13 +1,11 @@
 //! The pushes that lead to a solved state.
 
 ghost use Rattle.std.specs.Prelude.{◌≡◌, ◌<◌, ◌↔◌, IfOk, IsTrue, Some, length};
-ghost use Rattle.sok_board.specs.Area.{IsAccepted};
 ghost use Rattle.sok_search.specs.Searches.{IsSearching};
 ghost use Rattle.sok_search.specs.Walkthroughs.{GoesBack, IsSolvedAt, TracesBack};
 ghost use Rattle.sok_search.specs.Views.{progress_of};
 
 use crate::search::Search;
-use sok_board::area::Sq;
 use sok_board::board::Board;
 use sok_closed::solved::is_solved;
 use sok_rules::fault::Memory;
@@ -21,15 +19,13 @@ pub(crate) fn find_solved(
     search: &Search,
     pushes: u32,
 ) -> Result<usize, Memory>
-    requires accepted { IsAccepted board.now }
     requires search { IsSearching board.now (progress_of search.now) }
     requires best { search.now.best ≡ Some pushes }
     requires own { search.now.aim.upper ≡ Some pushes → ⊥ }
     ensures { IfOk result (IsSolvedAt board.now (progress_of search.now) pushes) }
 {
-    let mut squares = Vec::new(alloc);
     for index in 0..search.table.len() {
-        if is_solution(alloc, board, search, pushes, &mut squares, index)? {
+        if is_solution(alloc, board, search, pushes, index)? {
             return Ok(index);
         }
     }
@@ -42,10 +38,8 @@ fn is_solution(
     board: &Board,
     search: &Search,
     pushes: u32,
-    squares: &mut Vec<Sq>,
     index: usize,
 ) -> Result<bool, Memory>
-    requires accepted { IsAccepted board.now }
     requires search { IsSearching board.now (progress_of search.now) }
     requires within { index < length search.now.table.entries }
     ensures { IfOk result (λ is.
@@ -54,7 +48,7 @@ fn is_solution(
     if search.table.depth(index) > pushes {
         return Ok(false);
     }
-    let key = search.table.key(alloc, squares, index)?;
+    let key = search.table.key(alloc, index)?;
     Ok(is_solved(board, &key.boxes))
 }
 

@@ -1,24 +1,17 @@
 use Rattle.std.proofs.Common.{◌∙◌, Some, sym, ap, arith}
 use Rattle.std.proofs.lemmas.Option.{slice_get-get_or}
-use Rattle.sok_search.specs.Views.{progress_of}
-use Rattle.sok_search.proofs.StatesByIndex.{state-few}
 use Rattle.sok_search.proofs.certifying.state_at.Goals as goal
-
-pub key-requires-clause-few : goal.key-requires-clause-few
-key-requires-clause-few c =
-    let (b, accepted, (limit, search)) = c.requires.search in
-    state-few b limit (progress_of c.args.search.now) search c.args.index accepted
 
 pub index-requires : goal.index-requires
 index-requires c =
-    let (b, accepted, (limit, search)) = c.requires.search in
+    let (b, (limit, search)) = c.requires.search in
     let within = c.requires.within in
     let notes = search.a_note_each in
     omega (arith, within, notes, c.args.search.now.notes.ok)
 
 pub returns : goal.returns
 returns c =
-    let (b, accepted, (limit, search)) = c.requires.search in
+    let (b, (limit, search)) = c.requires.search in
     let within = c.requires.within in
     let notes = search.a_note_each in
     let note = c.index.result.now in

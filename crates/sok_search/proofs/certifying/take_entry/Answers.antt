@@ -7,7 +7,7 @@ use Rattle.sok_search.proofs.Certified.{entry-at, entry-fits}
 use Rattle.sok_search.proofs.certifying.take_entry.Goals as goal
 
 pub state_at-requires-clause-search : goal.state_at-requires-clause-search
-state_at-requires-clause-search g c = (c.args.setting.now.board.now, c.requires.accepted, (c.requires.search.0, c.requires.search.1))
+state_at-requires-clause-search g c = (c.args.setting.now.board.now, (c.requires.search.0, c.requires.search.1))
 
 pub reason_of-requires-clause-exist : goal.reason_of-requires-clause-exist
 reason_of-requires-clause-exist g c =

@@ -7,10 +7,10 @@ loss_after-requires-clause-pushed c =
     let b = c.args.setting.now.board.now in
     let key = c.args.key.now in
     let placed = c.requires.state.is.placed in
-    let (there, clear) = clear-legal b c.requires.accepted.numbered key placed c.args.push c.requires.legal in
+    let (there, clear) = clear-legal b c.requires.accepted.numbered key placed c.args.step.push c.requires.step.legal in
     record {
       exist = placed.boxes_exist;
       there = there;
-      within = beside-within b c.args.push.dir c.args.push.from c.args.to c.requires.ahead;
-      free = clear_ahead b key c.args.push clear c.args.to c.requires.ahead;
+      within = beside-within b c.args.step.push.dir c.args.step.push.from c.args.step.to c.requires.step.ahead;
+      free = clear_ahead b key c.args.step.push clear c.args.step.to c.requires.step.ahead;
     }

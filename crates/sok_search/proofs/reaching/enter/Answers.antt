@@ -1,5 +1,6 @@
-use Rattle.std.proofs.Common.{◌≡◌, ◌≤◌, ◌+◌, Bool, Contains, arith, false, length, refl, subst, sym, true, ℕ}
+use Rattle.std.proofs.Common.{◌≡◌, ◌≤◌, ◌+◌, ◌∙◌, Bool, Contains, arith, false, length, refl, subst, sym, true, ℕ}
 use Rattle.std.specs.Map.{keys_of}
+use Rattle.std.proofs.lemmas.Option.{same_Some}
 use Rattle.sok_board.specs.BoxSets.{put_in_order}
 use Rattle.sok_board.proofs.Beside.{beside-within}
 use Rattle.sok_board.proofs.Lists.{Contains-at}
@@ -115,6 +116,13 @@ insert_next-requires-clause-to c =
     let exists = beside-within c.args.setting.now.board.now c.args.step.push.dir c.args.step.push.from c.args.step.to c.requires.step.ahead in
     let wide = c.requires.state.running.search.wide in
     omega (arith, exists, wide)
+
+pub insert_next-requires-clause-there : goal.insert_next-requires-clause-there
+insert_next-requires-clause-there c = λ key at.
+    let s = c.args.step in
+    let moved = step.moved c.args.setting.now.board.now c.args.limit c.args.index c.args.search.now c.args.key.now c.args.depth c.requires.state
+    c.args.push_scratch.now.scene c.requires.opened s c.requires.step in
+    subst (λ (k : Key). Contains k.boxes s.push.from) (same_Some c.args.key.now key (sym c.requires.state.there ∙ at)) moved.there
 
 -- a key that was lacking goes last
 goes_last : (old new : Entries) (key : Key) (depth at : ℕ) (is_new : Bool) → Enters old key depth at is_new new → (Contains (keys_of old) key → ⊥)

@@ -1,4 +1,4 @@
-use Rattle.std.proofs.Common.{◌≡◌, ◌+◌, arith, refl, subst}
+use Rattle.std.proofs.Common.{◌+◌, arith, refl, subst}
 use Rattle.sok_board.specs.Area.{BoardView}
 use Rattle.sok_board.proofs.Beside.{beside-within}
 use Rattle.sok_closed.proofs.Starting.{at-within}

@@ -1,20 +1,14 @@
 use Rattle.std.proofs.Common.{ap, Err, refl, sym, true≢false}
-use Rattle.sok_search.specs.Steps.{holding}
 use Rattle.sok_search.specs.Views.{progress_of}
 use Rattle.sok_search.proofs.Adding.{taken-key}
-use Rattle.sok_search.proofs.StatesByIndex.{state-few}
 use Rattle.sok_search.proofs.Turning.{cut-waits, go-beaten, go-on, go-solved, held-noted, held-within}
 use Rattle.sok_search.proofs.running.visit.Goals as goal
 
 pub depth-depth-requires : goal.depth-depth-requires
 depth-depth-requires c = held-within c.args.setting.now.board.now c.args.limit c.args.index (progress_of c.args.search.now) c.requires.held.search
 
-pub key-requires-clause-exists : goal.key-requires-clause-exists
-key-requires-clause-exists c = held-within c.args.setting.now.board.now c.args.limit c.args.index (progress_of c.args.search.now) c.requires.held.search
-
-pub key-requires-clause-few : goal.key-requires-clause-few
-key-requires-clause-few c = state-few c.args.setting.now.board.now c.args.limit (holding c.args.index
-    (progress_of c.args.search.now)) c.requires.held.search c.args.index c.requires.held.accepted
+pub key-requires : goal.key-requires
+key-requires c = held-within c.args.setting.now.board.now c.args.limit c.args.index (progress_of c.args.search.now) c.requires.held.search
 
 pub returns-then-is_beaten-clause-turned : goal.returns-then-is_beaten-clause-turned
 returns-then-is_beaten-clause-turned c = go-beaten c.args.setting.now.board.now c.args.limit c.args.index c.args.bound c.depth-depth.result

@@ -1,6 +1,6 @@
 use Rattle.std.proofs.Common.{arith, sym, true≢false}
 use Rattle.sok_search.specs.Views.{progress_of}
-use Rattle.sok_search.proofs.StatesByIndex.{state-few, state-noted}
+use Rattle.sok_search.proofs.StatesByIndex.{state-noted}
 use Rattle.sok_search.proofs.Traces.{solved-key, solved-shallow}
 use Rattle.sok_search.proofs.tracing.is_solution.Goals as goal
 
@@ -12,10 +12,6 @@ returns-then-depth-pushes c = (
       let deep = c.if-depth-pushes.true in
       absurd (omega (arith, shallow, deep)),
 )
-
-pub key-requires-clause-few : goal.key-requires-clause-few
-key-requires-clause-few c = state-few c.args.board.now c.requires.search.0
-    (progress_of c.args.search.now) c.requires.search.1 c.args.index c.requires.accepted
 
 pub is_solved-requires : goal.is_solved-requires
 is_solved-requires c = record {

@@ -6,7 +6,7 @@ use Rattle.sok_search.proofs.walkthrough.letters.Goals as goal
 pub loop-push-init : goal.loop-push-init
 loop-push-init c = record {
   way = under_way-none c.args.board.now c.level-level.ensures.accepted c.in_ok-walkthrough.walkthrough c.args.trace.items c.requires c.in_ok-walkthrough.ensures;
-  opened = c.in_ok-open.ensures;
+  opened = c.in_ok-open.ensures.opened;
 }
 
 pub open-requires-clause-key : goal.open-requires-clause-key

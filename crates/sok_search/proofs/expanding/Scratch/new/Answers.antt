@@ -8,6 +8,6 @@ returns c =
       lifts = c.none.ensures b c.new.ensures.accepted.numbered;
       boxes = c.new.ensures.laid.0;
       laid = c.new.ensures.laid.1;
-      fences = c.new-5.ensures;
+      fences = c.in_ok-new-2.ensures;
       of_last = tt;
     }
