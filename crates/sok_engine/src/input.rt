@@ -1,6 +1,7 @@
 //! How long inputs may be, and reading all of one.
 
 ghost use Rattle.std.specs.Prelude.{◌<◌, ◌≤◌, ◌≡◌, IfOk, IfSome, IsErrOf, length};
+ghost use Rattle.sok_engine.specs.Faults.{of_input, tool_fault_number};
 ghost use Rattle.sok_engine.specs.Limits.{cert_limit, input_limit};
 ghost use Rattle.sok_engine.specs.declared.input.InputFault.TheVariants as fault;
 
@@ -27,6 +28,19 @@ pub enum InputFault {
     /// There are more bytes than the limit.
     #[error("TooMuch")]
     TooMuch,
+}
+
+impl InputFault {
+    /// Returns the number by which the fault is printed.
+    pub fn number(&self) -> u8
+        ensures { result ≡ tool_fault_number (of_input self.now) }
+    {
+        match self {
+            InputFault::Memory => 40,
+            InputFault::ReadFailed => 50,
+            InputFault::TooMuch => 52,
+        }
+    }
 }
 
 impl From<AllocError> for InputFault {
