@@ -7,7 +7,7 @@ ghost use Rattle.sok_entry.specs.Text.{numbers_of_reason, reason_alike};
 use crate::claim::Claim;
 use crate::entry::{Certificate, Entry, Inner, InnerReason, Reason};
 
-/// The greatest number that a certificate may have.
+/// The greatest number in the text of a certificate.
 pub const LIMIT: u32 = 1_000_000;
 
 /// Returns whether a certificate has a text. Each number and the length of each list, also of
