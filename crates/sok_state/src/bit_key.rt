@@ -5,7 +5,7 @@ ghost use Rattle.sok_state.specs.PackedKeys.{IsOfWords, TakesBits, TakesBitsMove
 
 use crate::key::Key;
 use crate::packed::Packed;
-use sok_board::area::Sq;
+use sok_board::area::{BOX_LIMIT, Sq};
 use sok_board::box_set::BoxSet;
 use sok_field::numbers;
 use sok_rules::fault::Memory;
@@ -48,8 +48,10 @@ impl<const N: usize> Packed for BitKey<N> {
         self.least
     }
 
+    /// Reserves room for the boxes first.
     fn boxes(&self, alloc: Global) -> Result<BoxSet, Memory> {
         let mut squares = Vec::new(alloc);
+        squares.reserve(BOX_LIMIT)?;
         let mut left = self.boxes;
         while let Some(square) = numbers::first(&left) {
             squares.push(square)?;
