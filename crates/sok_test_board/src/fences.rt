@@ -21,7 +21,7 @@ fn kept(alloc: Global, setting: &Setting<'_>) -> Result<(usize, Vec<Push>), Fail
     let mut pushes = Vec::new(alloc);
     list_pushes(board, &key, &scene, &mut pushes)?;
     let legal = pushes.len();
-    let mut scratch = FenceScratch::new(alloc, board);
+    let mut scratch = FenceScratch::new(alloc, board)?;
     scratch.narrow(setting, &key, &scene, &mut pushes)?;
     Ok((legal, pushes))
 }
