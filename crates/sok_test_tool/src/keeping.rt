@@ -357,11 +357,18 @@ const BAD_BOOK: &str = "fault 34 BadBook 2\n";
 
 const TOO_MUCH: &str = "fault 52 TooMuch\n";
 
-const UNREADABLE: [Row; 8] = [
+const UNREADABLE: [Row; 10] = [
     ("sok show faulty/book 1", "", BAD_BOOK, 5),
     ("sok offer faulty/book 1 R", "", BAD_BOOK, 5),
-    // the rows of the book are read before the file
+    // the rows of the book are read before the file or the folder is opened
     ("sok add faulty/book faulty/large", "", BAD_BOOK, 5),
+    ("sok prove faulty/book 1 faulty/none", "", BAD_BOOK, 5),
+    (
+        "sok settle faulty/book --certs faulty/none",
+        "",
+        BAD_BOOK,
+        5,
+    ),
     ("sok list faulty/large", "", TOO_MUCH, 3),
     ("sok check faulty/large 1 faulty/cert", "", TOO_MUCH, 3),
     ("sok replay faulty/levels 1 R", "solved 1 1\n", "", 0),

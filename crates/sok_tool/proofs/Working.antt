@@ -15,9 +15,14 @@ use Rattle.sok_tool.specs.Databases.{IsNeverLacking, IsTold, IsWithoutBook, OfOp
 pub fileless_too : (db : Place) (Lacks : ToolFault → Type 0) (told : ToolFault) → IsWithoutBook db IsNeverLacking told → IsWithoutBook db Lacks told
 fileless_too db Lacks told (unread memory) = unread memory
 fileless_too db Lacks told (unconnected says why) = unconnected says why
-fileless_too db Lacks told (fileless none found kept left) = absurd none
 fileless_too db Lacks told (busy found kept left inside why) = busy found kept left inside why
 fileless_too db Lacks told (bookless found left kept given why) = bookless found left kept given why
+fileless_too db Lacks told (fileless none opened found given) = absurd none
+
+-- a book is given back where what is named beside it is missing
+pub without_file : (db : Place) (Lacks : ToolFault → Type 0) (told : ToolFault) → Lacks told → (opened given : db.Connection) → OpensFound db opened → given ≡ opened
+    → db.closes_as given → IsWithoutBook db Lacks told
+without_file db Lacks told lacks opened given found same back = fileless lacks opened found (subst db.closes_as same back)
 
 module _ (db : Place) (Lacks : ToolFault → Type 0) (MayMake : Book → Book → Type 0) where
   -- where there is no book nothing is written

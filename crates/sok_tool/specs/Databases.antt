@@ -67,19 +67,20 @@ IsFileless lacks told = lacks × (told ≡ tool.ReadFailed)
 abbrev pub IsNeverLacking : ToolFault → Type 0
 IsNeverLacking told = ⊥
 
--- Why a command on a book has none to work on: memory was refused for its words; the database is refused; what the command names beside it is missing, or the
--- database is in a transaction, and the connection is given back as it was opened; or the database is not a book, and the connection is given back.
-pub data IsWithoutBook (db : Place) (Lacks : ToolFault → Type 0) (told : ToolFault) : Type 0 where
-  unread : told ≡ tool.Memory → IsWithoutBook db Lacks told
-  unconnected : db.refuses told → (told ≡ tool.Memory) ⊎ (told ≡ tool.Book refusal.Database) → IsWithoutBook db Lacks told
-  fileless : Lacks told → (found : db.Connection) → db.opens_as found → db.closes_as found → IsWithoutBook db Lacks told
-  busy : (found : db.Connection) → db.opens_as found → db.closes_as found → IsTrue (db.shows found).in_transaction → told ≡ tool.Book refusal.Database
-      → IsWithoutBook db Lacks told
-  bookless : (found left : db.Connection) → db.opens_as found → db.closes_as left → IsNoBook (db.shows found) (db.shows left) told → IsWithoutBook db Lacks told
-
 -- a book was opened, with exactly the rows that were found in a database that may be opened
 abbrev pub OpensFound : (db : Place) → db.Connection → Type 0
 OpensFound db opened = (found : db.Connection) × db.opens_as found × (HasCleanDisk (db.shows opened) → Opens (db.shows found) (db.shows opened))
+
+-- Why a command on a book has none to work on: memory was refused for its words; the database is refused; it is in a transaction, and the connection is given
+-- back as it was opened; it is not a book, and the connection is given back; or it was opened as a book, what the command names beside it is missing, and the
+-- connection is given back.
+pub data IsWithoutBook (db : Place) (Lacks : ToolFault → Type 0) (told : ToolFault) : Type 0 where
+  unread : told ≡ tool.Memory → IsWithoutBook db Lacks told
+  unconnected : db.refuses told → (told ≡ tool.Memory) ⊎ (told ≡ tool.Book refusal.Database) → IsWithoutBook db Lacks told
+  busy : (found : db.Connection) → db.opens_as found → db.closes_as found → IsTrue (db.shows found).in_transaction → told ≡ tool.Book refusal.Database
+      → IsWithoutBook db Lacks told
+  bookless : (found left : db.Connection) → db.opens_as found → db.closes_as left → IsNoBook (db.shows found) (db.shows left) told → IsWithoutBook db Lacks told
+  fileless : Lacks told → (opened : db.Connection) → OpensFound db opened → db.closes_as opened → IsWithoutBook db Lacks told
 
 -- The end of a command is reported as it is. Or it is reported as `Database`, since another file has the path of the database by then.
 abbrev pub IsTold : Type 0 → Result ℕ ToolFault → Result ℕ ToolFault → Type 0

@@ -1,5 +1,5 @@
-//! Each command on a book. It opens the database first, then the file that the command names, and
-//! then the book. Only `add` makes a database if there is none. A command that changes nothing only
+//! Each command on a book. It opens the database as a book first, and then the file that the command
+//! names. Only `add` makes a database if there is none. A command that changes nothing only
 //! reads the database.
 
 ghost use Rattle.std.specs.Prelude.{◌≡◌, Err, IfErr, IfOk, IfSome, option_map, string_bytes};
@@ -246,7 +246,7 @@ fn book_of<S: Alter + Drop, F: Databases<Opened = Connection<S>> + AllocGlobal>(
     opened(rt, db, found)
 }
 
-/// Opens the database at `db`, then the file at `path`, and then the book.
+/// Opens the database at `db` as a book, and then the file at `path`.
 fn book_and_file<S: Alter + Drop, F: Folder + Databases<Opened = Connection<S>> + AllocGlobal>(
     rt: &F,
     db: &str,
@@ -259,18 +259,18 @@ fn book_and_file<S: Alter + Drop, F: Folder + Databases<Opened = Connection<S>> 
     ensures refused { IfErr result
         (IsWithoutBook (place (state S.Store) (F.databases rt.now) access db.now) (IsFileless ((F.files rt.now).lacks path.now))) }
 {
-    let connection = rt.database(db, access)?;
+    let book = book_of(rt, db, access)?;
     match open(rt, path) {
-        Ok(input) => Ok((opened(rt, db, connection)?, input)),
+        Ok(input) => Ok((book, input)),
         Err(fault) => {
-            rt.close(db, connection);
+            rt.close(db, book.into_connection());
             Err(fault)
         }
     }
 }
 
-/// Opens the database at a path, then checks the folder for certificates, if one is given, and then
-/// opens the book.
+/// Opens the database at a path as a book, and then tests the folder for certificates, if one is
+/// given.
 fn book_and_folder<S: Alter + Drop, F: Folder + Databases<Opened = Connection<S>> + AllocGlobal>(
     rt: &F,
     db: &str,
@@ -282,14 +282,14 @@ fn book_and_folder<S: Alter + Drop, F: Folder + Databases<Opened = Connection<S>
     ensures refused { IfErr result (IsWithoutBook (place (state S.Store) (F.databases rt.now) accesses.Settle db.now)
         (IsFolderless (files_by F.Output.contents (F.files rt.now)) (option_map (λ s. string_bytes s) folder.now))) }
 {
-    let connection = rt.database(db, Access::Settle)?;
+    let book = book_of(rt, db, Access::Settle)?;
     if let Some(folder) = folder {
         if rt.try_folder(folder.as_str()).is_err() {
-            rt.close(db, connection);
+            rt.close(db, book.into_connection());
             return Err(ToolFault::WriteFailed);
         }
     }
-    opened(rt, db, connection)
+    Ok(book)
 }
 
 /// Opens a database as a book. If it is refused, the connection is given back. A connection in a

@@ -1,12 +1,10 @@
 use Rattle.std.proofs.Common.{◌≡◌, ◌∙◌, IfSome, OnErr, Result, Ok, Err, pos, refl, subst, sym, true, true≢false}
-use Rattle.std.proofs.lemmas.Result.{IfErr-weaker}
+use Rattle.std.proofs.lemmas.Result.{err_from_is_err_and}
 use Rattle.std.specs.Option.{IsSomeAnd, option_map}
 use Rattle.std.specs.Prelude.{string_bytes}
 use Rattle.std.specs.Result.{is_err}
-use Rattle.sok_databases.specs.declared.databases.Access.TheVariants as accesses
 use Rattle.sok_files.specs.Files.{MayKeep, cert_path}
-use Rattle.sok_tool.specs.Databases.{fileless}
-use Rattle.sok_tool.proofs.Working.{fileless_too}
+use Rattle.sok_tool.proofs.Working.{fileless_too, without_file}
 use Rattle.sok_tool.proofs.keeping.book_and_folder.Goals as goal
 
 -- what holds on an error holds of one
@@ -25,8 +23,9 @@ returns-then-is_err-clause-refused g c =
     let bars = (g.F.Folder.files c.args.rt.now).lacks_folder in
     let barred = of_err (bars c.as_str.result.now) c.try_folder.result (sym c.is_err.ensures.value ∙ c.if-is_err.true) c.try_folder.ensures in
     let folder = subst (λ o. IsSomeAnd (option_map (λ s. string_bytes s) o) bars) (sym c.in-Some.is) (subst bars c.as_str.ensures.value barred) in
-    fileless (folder, refl) c.in_ok-connection.connection c.in_ok-connection.ensures.opened c.close.ensures
+    without_file _ _ _ (folder, refl) c.in_ok-book.book c.into_connection.result c.in_ok-book.ensures.opens c.into_connection.ensures c.close.ensures
 
-pub returns-clause-refused : goal.returns-clause-refused
-returns-clause-refused g c =
-    IfErr-weaker c.opened.result _ _ (fileless_too _ _) (c.opened.ensures.refused accesses.Settle c.in_ok-connection.ensures.opened)
+pub returns-in_err-book-clause-refused : goal.returns-in_err-book-clause-refused
+returns-in_err-book-clause-refused g c =
+    let p = err_from_is_err_and c.from_residual.result c.from_residual.ensures.1 in
+    rw (p.1, p.2) (fileless_too _ _ _ c.in_err-book.ensures.refused)
