@@ -6,7 +6,7 @@ pub mod Filling
 pub mod Like
 pub mod Lines
 pub mod Marked
-pub mod Encoded
+pub mod Marks
 pub mod Plain
 pub mod Rows
 pub mod Runs

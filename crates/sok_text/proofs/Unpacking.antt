@@ -1,11 +1,12 @@
 -- The rows of a packed line, part by part.
 use Rattle.std.proofs.Common.{ℕ, ◌≡◌, ◌≢◌, ◌<◌, ◌≤◌, ◌+◌, ◌-◌, List, [], ◌∷◌, ◌++◌, Some, None, Vec, All, true, false, ◌⊎◌, suc, zero, min}
-use Rattle.std.proofs.Common.{length, map, replicate, take, drop, get_or, sym, ap, ◌∙◌, refl, subst, inl, inr, arith}
+use Rattle.std.proofs.Common.{flat_map, length, map, replicate, take, drop, get_or, sym, ap, ◌∙◌, refl, subst, inl, inr, arith}
 use Rattle.std.proofs.lemmas.Bool.{cases_lt}
 use Rattle.std.proofs.lemmas.List.{append_assoc, append-nil, length-append, length-replicate, map_push, replicate-append-replicate, take-append-drop, drop_more}
 use Rattle.std.proofs.lemmas.List.Elements.{All-head, All-tail}
 use Rattle.std.specs.Char.{is_ascii_digit}
 use Rattle.std.specs.List.{AllPass}
+use Rattle.std.specs.Option.{option_map_or}
 use Rattle.sok_rules.specs.Limits.{size_limit}
 use Rattle.sok_rules.specs.declared.cell.Cell.{Cell}
 use Rattle.sok_rules.specs.declared.cell.Cell.TheVariants.{Floor}
@@ -14,67 +15,66 @@ use Rattle.sok_rules.specs.Levels.{cells_of, level_of, trimmed}
 use Rattle.sok_rules.proofs.Proper.{level_of-tall}
 use Rattle.sok_text.specs.Counts.{starts_with_digit, times}
 use Rattle.sok_text.specs.Like.{IsLike, AreLike}
-use Rattle.sok_text.specs.Packed.{cells_behind, first_cell, is_bar, onto_first, packed_rows, parts_between}
-use Rattle.sok_text.proofs.Lines.{behind_first, behind_first-cons}
+use Rattle.sok_text.specs.Packed.{cells_of_mark, cells_of_part, is_bar, onto_first, packed_rows, parts_between}
+use Rattle.sok_text.specs.Xsb.{cell_of}
+use Rattle.sok_text.proofs.Lines.{behind_first}
+use Rattle.sok_text.proofs.Marks.{marks_of-behind, marks_of-end}
 use Rattle.sok_text.proofs.Like.{AreLike-push, length-AreLike, level_of-like, trimmed-floors, trimmed-several}
 
-cells_behind-digits : (more left digits : List ℕ) → AllPass is_ascii_digit more → cells_behind digits (more ++ left) ≡ cells_behind (digits ++ more) left
-cells_behind-digits [] left digits all = ap (λ ds. cells_behind ds left) (sym (append-nil digits))
-cells_behind-digits (c ∷ more) left digits all =
-    let P : ℕ → Type 0 = λ x. is_ascii_digit x ≡ true in
-    let digit = All-head P c more all in
-    let first : cells_behind digits ((c ∷ more) ++ left) ≡ cells_behind (digits ++ c ∷ []) (more ++ left) = rw digit in
-    first ∙ cells_behind-digits more left (digits ++ c ∷ []) (All-tail P c more all)
-    ∙ ap (λ ds. cells_behind ds left) (append_assoc digits (c ∷ []) more)
+-- the cells of a mark stand before those of the rest
+cells-mark : (left digits behind : List ℕ) → left ≡ digits ++ behind → AllPass is_ascii_digit digits → starts_with_digit behind ≡ false → 0 < length behind
+    → cells_of_part left ≡ cells_of_mark (record { digits = digits; byte = Some (get_or behind 0 0) }) ++ cells_of_part (behind_first behind)
+cells-mark left digits behind whole all other some = ap (flat_map cells_of_mark) (marks_of-behind left digits behind whole all other some)
 
--- a cell behind digits
-cells_behind-cell : (left digits behind : List ℕ) (cell : Cell) → left ≡ digits ++ behind → AllPass is_ascii_digit digits → starts_with_digit behind ≡ false
-    → first_cell behind ≡ Some cell → cells_behind [] left ≡ replicate (times digits) cell ++ cells_behind [] (behind_first behind)
-cells_behind-cell left digits [] cell whole all other is = cc
-cells_behind-cell left digits (c ∷ rest) cell whole all other is =
-    let here : cells_behind digits (c ∷ rest) ≡ replicate (times digits) cell ++ cells_behind [] rest = rw (other, is) in
-    ap (cells_behind []) whole ∙ cells_behind-digits digits (c ∷ rest) [] all ∙ here
-    ∙ ap (λ part. replicate (times digits) cell ++ cells_behind [] part) (sym (behind_first-cons c rest))
-
--- no cell behind digits
-cells_behind-none : (left digits behind : List ℕ) → left ≡ digits ++ behind → AllPass is_ascii_digit digits → starts_with_digit behind ≡ false
-    → first_cell behind ≡ None → cells_behind [] left ≡ []
-cells_behind-none left digits [] whole all other is = ap (cells_behind []) whole ∙ cells_behind-digits digits [] [] all
-cells_behind-none left digits (c ∷ rest) whole all other is =
-    let here : cells_behind digits (c ∷ rest) ≡ [] = rw (other, is) in
-    ap (cells_behind []) whole ∙ cells_behind-digits digits (c ∷ rest) [] all ∙ here
+cells-cell : (left digits behind : List ℕ) (cell : Cell) → left ≡ digits ++ behind → AllPass is_ascii_digit digits → starts_with_digit behind ≡ false
+    → 0 < length behind → cell_of (get_or behind 0 0) ≡ Some cell
+    → cells_of_part left ≡ replicate (times digits) cell ++ cells_of_part (behind_first behind)
+cells-cell left digits behind cell whole all other some is =
+    cells-mark left digits behind whole all other some
+    ∙ ap (λ found. option_map_or (replicate (times digits)) found [] ++ cells_of_part (behind_first behind)) is
 
 -- what is left of a part stands behind a row and floor, of which there is none where the row has room
 pub record IsUnpacked (part left : List ℕ) (row : List Cell) : Type 0 where
   pub floor : ℕ
-  pub whole : cells_behind [] part ≡ (row ++ replicate floor Floor) ++ cells_behind [] left
+  pub whole : cells_of_part part ≡ (row ++ replicate floor Floor) ++ cells_of_part left
   pub full : 0 < floor → length row ≡ size_limit
   pub short : length row ≤ size_limit
 
 -- nothing more is left
-pub IsLike-end : (part left : List ℕ) (row : List Cell) → IsUnpacked part left row → cells_behind [] left ≡ [] → IsLike row (cells_behind [] part)
+pub IsLike-end : (part left : List ℕ) (row : List Cell) → IsUnpacked part left row → cells_of_part left ≡ [] → IsLike row (cells_of_part part)
 IsLike-end part left row read none =
     inl (sym (ap trimmed (read.whole ∙ ap (λ cells. (row ++ replicate read.floor Floor) ++ cells) none ∙ append-nil (row ++ replicate read.floor Floor))
     ∙ trimmed-floors read.floor row))
 
-pub cells_behind-empty : (left : List ℕ) → length left ≡ 0 → cells_behind [] left ≡ []
-cells_behind-empty [] none = refl
-cells_behind-empty (c ∷ left) none = absurd (omega arith)
+pub cells-none : (left : List ℕ) → length left ≡ 0 → cells_of_part left ≡ []
+cells-none [] none = refl
+cells-none (c ∷ left) none = absurd (omega arith)
 
-pub IsLike-none : (part left digits behind : List ℕ) (row : List Cell) → IsUnpacked part left row → left ≡ digits ++ behind → AllPass is_ascii_digit digits
-    → starts_with_digit behind ≡ false → first_cell behind ≡ None → IsLike row (cells_behind [] part)
-IsLike-none part left digits behind row read whole all other none =
-    IsLike-end part left row read (cells_behind-none left digits behind whole all other none)
+-- digits alone are no cell
+pub cells-digits : (left digits behind : List ℕ) → 0 < length left → left ≡ digits ++ behind → AllPass is_ascii_digit digits → length behind ≡ 0
+    → cells_of_part left ≡ []
+cells-digits left digits behind some whole all empty = ap (flat_map cells_of_mark) (marks_of-end left digits behind some whole all empty)
+
+-- another mark is passed over
+pub IsUnpacked-other : (part left digits behind : List ℕ) (row : List Cell) → IsUnpacked part left row → left ≡ digits ++ behind → AllPass is_ascii_digit digits
+    → starts_with_digit behind ≡ false → 0 < length behind → cell_of (get_or behind 0 0) ≡ None → IsUnpacked part (behind_first behind) row
+IsUnpacked-other part left digits behind row read whole all other some none = record {
+  floor = read.floor;
+  whole = read.whole ∙ ap (λ cells. (row ++ replicate read.floor Floor) ++ cells) (cells-mark left digits behind whole all other some
+      ∙ ap (λ found. option_map_or (replicate (times digits)) found [] ++ cells_of_part (behind_first behind)) none);
+  full = read.full;
+  short = read.short;
+}
 
 -- too many cells
 pub IsLike-wide : (part left digits behind : List ℕ) (row grown : List Cell) (cell : Cell) → IsUnpacked part left row → left ≡ digits ++ behind
-    → AllPass is_ascii_digit digits → starts_with_digit behind ≡ false → first_cell behind ≡ Some cell → cell ≢ Floor → size_limit < length row + times digits
-    → grown ≡ row ++ replicate ((size_limit + 1) - length row) cell → IsLike grown (cells_behind [] part)
-IsLike-wide part left digits behind row grown cell read whole all other is full wide longer =
-    let rest = cells_behind [] (behind_first behind) in
+    → AllPass is_ascii_digit digits → starts_with_digit behind ≡ false → 0 < length behind → cell_of (get_or behind 0 0) ≡ Some cell → cell ≢ Floor → size_limit < length row + times digits
+    → grown ≡ row ++ replicate ((size_limit + 1) - length row) cell → IsLike grown (cells_of_part part)
+IsLike-wide part left digits behind row grown cell read whole all other some is full wide longer =
+    let rest = cells_of_part (behind_first behind) in
     let front = row ++ replicate read.floor Floor in
-    let cells : cells_behind [] part ≡ (front ++ replicate (times digits) cell) ++ rest = read.whole
-    ∙ ap (λ more. front ++ more) (cells_behind-cell left digits behind cell whole all other is) ∙ sym (append_assoc front (replicate (times digits) cell) rest) in
+    let cells : cells_of_part part ≡ (front ++ replicate (times digits) cell) ++ rest = read.whole
+    ∙ ap (λ more. front ++ more) (cells-cell left digits behind cell whole all other some is) ∙ sym (append_assoc front (replicate (times digits) cell) rest) in
     let short = read.short in
     let here : size_limit < length (trimmed ((row ++ replicate ((size_limit + 1) - length row) cell) ++ [])) =
     trimmed-several row [] cell ((size_limit + 1) - length row) full (omega arith) (omega arith) in
@@ -115,16 +115,17 @@ full_still (suc floor) t len n long more full short room is left some = let all 
 
 -- the next cells are put behind a row, as many as it has room for
 pub IsUnpacked-more : (part left digits behind : List ℕ) (row grown : List Cell) (cell : Cell) (n : ℕ) → IsUnpacked part left row → left ≡ digits ++ behind
-    → AllPass is_ascii_digit digits → starts_with_digit behind ≡ false → first_cell behind ≡ Some cell
+    → AllPass is_ascii_digit digits → starts_with_digit behind ≡ false → 0 < length behind
+    → cell_of (get_or behind 0 0) ≡ Some cell
     → (cell ≡ Floor) ⊎ (length row + times digits ≤ size_limit) → n ≡ min (length row + times digits) size_limit → grown ≡ row ++ replicate (n - length row) cell
     → IsUnpacked part (behind_first behind) grown
-IsUnpacked-more part left digits behind row grown cell n read whole all other is fits room longer =
+IsUnpacked-more part left digits behind row grown cell n read whole all other some is fits room longer =
     let t = times digits in
-    let rest = cells_behind [] (behind_first behind) in
+    let rest = cells_of_part (behind_first behind) in
     let full = read.full in
     let short = read.short in
-    let cells : cells_behind [] part ≡ (row ++ replicate read.floor Floor) ++ (replicate t cell ++ rest) = read.whole
-    ∙ ap (λ more. (row ++ replicate read.floor Floor) ++ more) (cells_behind-cell left digits behind cell whole all other is) in
+    let cells : cells_of_part part ≡ (row ++ replicate read.floor Floor) ++ (replicate t cell ++ rest) = read.whole
+    ∙ ap (λ more. (row ++ replicate read.floor Floor) ++ more) (cells-cell left digits behind cell whole all other some is) in
     let long : length grown ≡ n = ap length longer ∙ omega (arith, length-append row (replicate (n - length row) cell), length-replicate (n - length row) cell) in
     elim fits [
       | inl plain ↦ record {
@@ -152,14 +153,14 @@ pub record AreUnpacked (line left : List ℕ) (rows : Rows) : Type 0 where
   pub like : AreLike rows done
 
 pub AreUnpacked-more : {A : Type 0} (line left part behind : List ℕ) (rows grown : List (Vec Cell A)) (row : Vec Cell A) → AreUnpacked line left (cells_of rows)
-    → parts_between left ≡ part ∷ parts_between behind → IsLike row.items (cells_behind [] part) → grown ≡ rows ++ row ∷ []
+    → parts_between left ≡ part ∷ parts_between behind → IsLike row.items (cells_of_part part) → grown ≡ rows ++ row ∷ []
     → AreUnpacked line behind (cells_of grown)
 AreUnpacked-more line left part behind rows grown row read cut like longer = record {
-  done = read.done ++ cells_behind [] part ∷ [];
-  whole = read.whole ∙ ap (λ parts. read.done ++ map (cells_behind []) parts) cut
-      ∙ sym (append_assoc read.done (cells_behind [] part ∷ []) (packed_rows behind));
-  like = subst (λ all. AreLike all (read.done ++ cells_behind [] part ∷ []))
-      (sym (ap cells_of longer ∙ map_push (λ (r : Vec Cell _). r.items) rows row)) (AreLike-push (cells_of rows) read.done row.items (cells_behind [] part) read.like like);
+  done = read.done ++ cells_of_part part ∷ [];
+  whole = read.whole ∙ ap (λ parts. read.done ++ map (cells_of_part) parts) cut
+      ∙ sym (append_assoc read.done (cells_of_part part ∷ []) (packed_rows behind));
+  like = subst (λ all. AreLike all (read.done ++ cells_of_part part ∷ []))
+      (sym (ap cells_of longer ∙ map_push (λ (r : Vec Cell _). r.items) rows row)) (AreLike-push (cells_of rows) read.done row.items (cells_of_part part) read.like like);
 }
 
 -- all rows are read

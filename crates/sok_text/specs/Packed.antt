@@ -1,13 +1,27 @@
 -- Packed lines: the rows of a level on one line, run-length encoded (Sokoban Wiki, "Level format").
-use Rattle.std.specs.Prelude.{ℕ, List, [], ◌∷◌, ◌++◌, Option, None, Bool, ◌&&◌, if◌then◌else◌, ◌==◌, is_some, nat_le, length, map, replicate, codes}
+use Rattle.std.specs.Prelude.{ℕ, ◌≡◌, List, [], ◌∷◌, ◌++◌, Option, Some, None, Bool, ◌&&◌, if◌then◌else◌, ◌==◌, is_some, nat_le, length, map, flat_map, replicate, codes, false, All}
 use Rattle.std.specs.Char.{is_ascii_digit}
-use Rattle.std.specs.List.{list_any}
+use Rattle.std.specs.List.{AllPass, list_all, list_any}
 use Rattle.std.specs.Option.{option_map_or}
 use Rattle.sok_rules.specs.declared.cell.Cell.{Cell}
 use Rattle.sok_rules.specs.Squares.{Rows}
 use Rattle.sok_text.specs.Characters.{code}
 use Rattle.sok_text.specs.Counts.{times}
 use Rattle.sok_text.specs.Xsb.{cell_of}
+
+-- digits, of which there may be none, and the byte after them, which is missing at the end of a text that ends in digits
+pub record Mark : Type 0 where
+  pub digits : List ℕ
+  pub byte : Option ℕ
+
+abbrev pub with_digit : ℕ → List Mark → List Mark
+with_digit c [] = record { digits = c ∷ []; byte = None } ∷ []
+with_digit c (mark ∷ marks) = record { digits = c ∷ mark.digits; byte = mark.byte } ∷ marks
+
+-- a text, cut after each byte that is no digit
+abbrev pub marks_of : List ℕ → List Mark
+marks_of [] = []
+marks_of (c ∷ text) = if is_ascii_digit c then with_digit c (marks_of text) else record { digits = []; byte = Some c } ∷ marks_of text
 
 abbrev pub is_bar : ℕ → Bool
 is_bar c = c == code (codes "|")
@@ -20,14 +34,21 @@ is_count digits = nat_le (length digits) 3 && nat_le 1 (times digits) && nat_le 
 abbrev pub is_mark : List ℕ → ℕ → Bool
 is_mark digits c = if is_bar c then length digits == 0 else is_some (cell_of c) && is_count digits
 
--- the rest of a line, after these digits, has only such marks
-abbrev pub is_encoded : List ℕ → List ℕ → Bool
-is_encoded digits [] = length digits == 0
-is_encoded digits (c ∷ line) = if is_ascii_digit c then is_encoded (digits ++ c ∷ []) line else is_mark digits c && is_encoded [] line
+abbrev pub is_right : Mark → Bool
+is_right mark = option_map_or (is_mark mark.digits) mark.byte false
 
 -- a line that has only such marks, with a wall and a bar among them
 abbrev pub is_packed_line : List ℕ → Bool
-is_packed_line line = is_encoded [] line && list_any (λ c. c == code (codes "#")) line && list_any is_bar line
+is_packed_line line = list_all is_right (marks_of line) && list_any (λ c. c == code (codes "#")) line && list_any is_bar line
+
+abbrev pub mark_text : Mark → List ℕ
+mark_text mark = mark.digits ++ option_map_or (λ c. c ∷ []) mark.byte []
+
+-- a line is the text of these marks, all of which are right
+pub record ReadsAs (line : List ℕ) (marks : List Mark) : Type 0 where
+  pub digits : All (λ mark. AllPass is_ascii_digit mark.digits) marks
+  pub right : AllPass is_right marks
+  pub text : line ≡ flat_map mark_text marks
 
 -- the parts of a line with a character put before the first part
 abbrev pub onto_first : ℕ → List (List ℕ) → List (List ℕ)
@@ -39,17 +60,12 @@ abbrev pub parts_between : List ℕ → List (List ℕ)
 parts_between [] = []
 parts_between (c ∷ line) = if is_bar c then [] ∷ parts_between line else onto_first c (parts_between line)
 
--- the cells of the rest of a part, after these digits
-abbrev pub cells_behind : List ℕ → List ℕ → List Cell
-cells_behind digits [] = []
-cells_behind digits (c ∷ part) =
-    if is_ascii_digit c then cells_behind (digits ++ c ∷ []) part
-    else option_map_or (λ cell. replicate (times digits) cell ++ cells_behind [] part) (cell_of c) []
+-- the cell of a mark, as often as its digits say
+abbrev pub cells_of_mark : Mark → List Cell
+cells_of_mark mark = option_map_or (λ c. option_map_or (replicate (times mark.digits)) (cell_of c) []) mark.byte []
 
--- the cell with which a text begins, if it begins with one
-abbrev pub first_cell : List ℕ → Option Cell
-first_cell [] = None
-first_cell (c ∷ text) = cell_of c
+abbrev pub cells_of_part : List ℕ → List Cell
+cells_of_part part = flat_map cells_of_mark (marks_of part)
 
 abbrev pub packed_rows : List ℕ → Rows
-packed_rows line = map (cells_behind []) (parts_between line)
+packed_rows line = map cells_of_part (parts_between line)

@@ -1,14 +1,14 @@
 //! Packed lines: a level's rows on one line, run-length encoded (Sokoban Wiki, "Level format").
 
-ghost use Rattle.std.specs.Prelude.{◌≡◌, ◌<◌, ◌↔◌, ◌∷◌, [], IfOk, IsTrue, length};
+ghost use Rattle.std.specs.Prelude.{◌≡◌, ◌<◌, ◌↔◌, ◌∷◌, [], IfOk, IsTrue, List, length};
 ghost use Rattle.std.specs.List.{AllPass};
 ghost use Rattle.std.specs.Char.{is_ascii_digit};
-ghost use Rattle.std.specs.List.{list_any};
+ghost use Rattle.std.specs.List.{list_all, list_any};
 ghost use Rattle.sok_rules.specs.declared.cell.Cell.TheVariants as the;
 ghost use Rattle.sok_rules.specs.Levels.{cells_of, level_of};
-ghost use Rattle.sok_text.specs.Packed.{cells_behind, first_cell, parts_between, packed_rows};
 ghost use Rattle.sok_text.specs.Like.{IsLike};
-ghost use Rattle.sok_text.specs.Packed.{is_packed_line, is_encoded, is_mark, is_count, is_bar};
+ghost use Rattle.sok_text.specs.Packed.{cells_of_part, parts_between, packed_rows};
+ghost use Rattle.sok_text.specs.Packed.{ReadsAs, Mark, is_bar, is_count, is_mark, is_packed_line, is_right, marks_of};
 
 use crate::count::{cut_digits, times};
 use crate::xsb::{cell_of, has_wall};
@@ -17,24 +17,29 @@ use sok_rules::level::LIMIT;
 use std::alloc::{AllocError, Global};
 
 /// Returns whether a line, without its end, is packed: it has only XSB characters, bars and counts,
-/// and at least one wall and one bar.
+/// and at least one wall and one bar. A line is read in one way.
+#[tactic(auto, using(crate::proofs::Marks::read_one_way))]
 pub fn is_packed_line(line: &[u8]) -> bool
-    ensures { result ≡ is_packed_line line.now }
+    ensures packed { result ≡ is_packed_line line.now }
+    ensures read_one_way { (marks : List Mark) → ReadsAs line.now marks → marks ≡ marks_of line.now }
 {
     is_encoded(line) && has_wall(line) && has_bar(line)
 }
 
 /// Returns whether a line has only bars, and XSB characters with or without a count.
 fn is_encoded(line: &[u8]) -> bool
-    ensures { result ≡ is_encoded [] line.now }
+    ensures { result ≡ list_all is_right (marks_of line.now) }
 {
     let mut left = line;
     while !left.is_empty() {
         let (digits, behind) = cut_digits(left);
-        if behind.is_empty() || !is_mark(digits, behind[0]) {
+        let [byte, rest @ ..] = behind else {
+            return false;
+        };
+        if !is_mark(digits, *byte) {
             return false;
         }
-        left = &behind[1..];
+        left = rest;
     }
     true
 }
@@ -104,14 +109,18 @@ fn cut_part(text: &[u8]) -> (&[u8], &[u8])
 /// Returns the cells of a part, without floor after the 128th cell. If another cell stands there,
 /// returns 129 cells, which are too many for a row.
 fn row_of(alloc: Global, part: &[u8]) -> Result<Vec<Cell>, AllocError>
-    ensures { IfOk result (λ row. IsLike row.items (cells_behind [] part.now)) }
+    ensures { IfOk result (λ row. IsLike row.items (cells_of_part part.now)) }
 {
     let mut row = Vec::new(alloc);
     let mut left = part;
     while !left.is_empty() {
         let (digits, behind) = cut_digits(left);
-        let Some(cell) = first_cell(behind) else {
+        let [byte, rest @ ..] = behind else {
             return Ok(row);
+        };
+        left = rest;
+        let Some(cell) = cell_of(*byte) else {
+            continue;
         };
         let len = row.len() + times(digits);
         if len > LIMIT && !is_floor(cell) {
@@ -119,16 +128,8 @@ fn row_of(alloc: Global, part: &[u8]) -> Result<Vec<Cell>, AllocError>
             return Ok(row);
         }
         row.resize(len.min(LIMIT), cell)?;
-        left = &behind[1..];
     }
     Ok(row)
-}
-
-/// Returns the cell with which a text begins, if it begins with one.
-fn first_cell(text: &[u8]) -> Option<Cell>
-    ensures { result ≡ first_cell text.now }
-{
-    cell_of(*text.first()?)
 }
 
 fn is_floor(cell: Cell) -> bool
