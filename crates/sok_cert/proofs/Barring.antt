@@ -1,7 +1,7 @@
--- An entry that is barred by what its reason says goes with its claim.
+-- An entry that is barred by what its reason says goes with its claim, which is true if each list does that solves from the start.
 use Rattle.std.proofs.Common.{ℕ, ◌≤◌, ◌+◌, ◌-◌, arith, List, Option, Some, None, IsSomeAnd}
-use Rattle.sok_rules.specs.declared.cell.Dir.{Dir}
-use Rattle.sok_rules.specs.Play.{Position, SolvesFrom, pushes}
+use Rattle.sok_rules.specs.Play.{Position, pushes, start}
+use Rattle.sok_rules.specs.Squares.{Rows}
 use Rattle.sok_rules.specs.States.{Same}
 use Rattle.sok_board.specs.Area.{BoardView, IsAccepted, position_of}
 use Rattle.sok_region.specs.Regions.{IsPlaced}
@@ -9,10 +9,11 @@ use Rattle.sok_bar.specs.declared.rest.Rest.{Rest}
 use Rattle.sok_bar.specs.Bars.{Barring, Bars}
 use Rattle.sok_bar.specs.Rests.{IsBarred}
 use Rattle.sok_bar.proofs.ReasonLaws.{reasons-bar}
+use Rattle.sok_closed.proofs.KnownPositions.{AllAgree}
 use Rattle.sok_entry.specs.declared.claim.Claim.{Claim}
 use Rattle.sok_entry.specs.declared.claim.Claim.TheVariants.{Pushes, Unsolvable}
 use Rattle.sok_entry.specs.declared.entry.Entry.{Entry}
-use Rattle.sok_cert.specs.Closed.{IsBarredBy, IsPosition, barring, rest_of}
+use Rattle.sok_cert.specs.Closed.{IsBarredBy, IsPosition, IsTrueOf, barring, rest_of}
 
 -- by the law of reasons
 some_bars : (b : BoardView) → IsAccepted b → (player : ℕ) (boxes : List ℕ) (rest : Rest) → IsPlaced b boxes player → (reason : Option Barring)
@@ -41,7 +42,12 @@ Agrees-deeper Unsolvable near far n deeper agrees = agrees
 
 -- from no position of a barred state does a list solve that goes against the claim
 pub Agrees-barred : (b : BoardView) (claim : Claim) (depth player : ℕ) (boxes : List ℕ) → IsBarred b player boxes (rest_of claim depth)
-    → (x : Position) → Same b.rows (position_of b player boxes) x → (w : List Dir) → SolvesFrom b.rows x w → Agrees claim depth (pushes b.rows x w)
+    → (x : Position) → Same b.rows (position_of b player boxes) x → AllAgree b.rows (Agrees claim) depth x
 Agrees-barred b (Pushes k) depth player boxes barred x same w solves = let bound : k - depth ≤ pushes b.rows x w = barred.each x same w solves in
     omega (arith, bound)
 Agrees-barred b Unsolvable depth player boxes barred x same w solves = barred.each x same w solves
+
+-- a claim with which each list goes that solves from the start
+pub IsTrueOf-agrees : (rows : Rows) (claim : Claim) → AllAgree rows (Agrees claim) 0 (start rows) → IsTrueOf rows claim
+IsTrueOf-agrees rows (Pushes k) agree = λ w solves. let bound : k ≤ 0 + pushes rows (start rows) w = agree w solves in omega (arith, bound)
+IsTrueOf-agrees rows Unsolvable agree = agree

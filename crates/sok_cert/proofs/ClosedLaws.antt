@@ -8,8 +8,7 @@ use Rattle.sok_closed.proofs.RollLaws.{AreBarred, roll-agrees}
 use Rattle.sok_entry.specs.declared.claim.Claim.{Claim}
 use Rattle.sok_entry.specs.declared.entry.Entry.{Entry}
 use Rattle.sok_cert.specs.Closed.{IsBarredBy, IsClosed, IsPosition, ShowsClaims, is_expanded, node_of}
-use Rattle.sok_cert.proofs.Barring.{Agrees, Agrees-barred, Agrees-deeper, Agrees-more, IsBarred-entry}
-use Rattle.sok_cert.proofs.KnownPositions.{IsTrueOf-agrees}
+use Rattle.sok_cert.proofs.Barring.{Agrees, Agrees-barred, Agrees-deeper, Agrees-more, IsBarred-entry, IsTrueOf-agrees}
 
 -- an entry that is not expanded bars
 entries-barred : (b : BoardView) → IsAccepted b → (claim : Claim) (entries : List Entry) → IsClosed b claim entries → AreBarred node_of b entries (Agrees claim)

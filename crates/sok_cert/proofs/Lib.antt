@@ -2,7 +2,6 @@ pub mod Barring
 pub mod ClosedLaws
 pub mod Closing
 pub mod Entered
-pub mod KnownPositions
 pub mod LongLines
 pub mod Longer
 pub mod OneRefusal

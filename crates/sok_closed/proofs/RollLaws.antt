@@ -9,7 +9,7 @@ use Rattle.sok_rules.proofs.Steps.{IsStanding, IsStanding-step}
 use Rattle.sok_rules.proofs.Walking.{Same-step, Same-sym, Same-trans}
 use Rattle.sok_board.specs.Area.{BoardView}
 use Rattle.sok_closed.specs.Rolls.{IsClosedAt, IsRoll, Node, node_position}
-use Rattle.sok_closed.proofs.KnownPositions.{AgreesBefore, AllAgree, LeadsOn, all-agree, solved-Same}
+use Rattle.sok_closed.proofs.KnownPositions.{AgreesBefore, AllAgree, LeadsOn, Rearranges, all-agree, solved-Same}
 
 -- an entry at most so deep, of the state of a position
 record IsListedAt {E : Type 0} (node : E → Node) (b : BoardView) (entries : List E) (depth : ℕ) (x : Position) : Type 0 where
@@ -64,11 +64,12 @@ module _ {E : Type 0} (node : E → Node) (b : BoardView) (count : ℕ) (from : 
         All-contains (λ e. (node e).expanded ≡ true → AllOnGoals b.rows (node_position b (node e)) → ⊥) entries at.entry roll.unsolved at.listed expanded
         (solved-Same b.rows (node_position b (node at.entry)) x at.same solved)
 
-    listed_known : AllAgree b.rows Agrees depth x ⊎ LeadsOn b.rows (IsListedAt node b entries) depth x
+    listed_known : AllAgree b.rows Agrees depth x
+        ⊎ (LeadsOn b.rows (IsListedAt node b entries) depth x ⊎ Rearranges b.rows (IsListedAt node b entries) depth x)
     listed_known = elim (cases_Bool (node at.entry).expanded) [
       | inr other ↦ inl (λ w solves.
           deeper (node at.entry).depth depth (pushes b.rows x w) at.near (barred at.entry at.listed other x at.same w solves))
-      | inl expanded ↦ inr (record { unsolved = unsolved expanded; walked = walked; pushed = pushed expanded })
+      | inl expanded ↦ inr (inl (record { unsolved = unsolved expanded; walked = walked; pushed = pushed expanded }))
     ]
 
   -- the theorem

@@ -3,5 +3,4 @@ pub mod Fences
 pub mod Jamming
 pub mod Keeping
 pub mod Laying
-pub mod Rearranging
 pub mod Shutting

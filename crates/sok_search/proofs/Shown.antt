@@ -16,12 +16,10 @@ use Rattle.sok_alone.proofs.Losing.{lost-never}
 use Rattle.sok_cert.specs.Claim.{Claim}
 use Rattle.sok_cert.specs.Claim.TheVariants.{Pushes, Unsolvable}
 use Rattle.sok_cert.specs.Closed.{IsTrueOf, rest_of}
-use Rattle.sok_cert.proofs.Barring.{Agrees, Agrees-barred, Agrees-deeper, Agrees-more}
+use Rattle.sok_cert.proofs.Barring.{Agrees, Agrees-barred, Agrees-deeper, Agrees-more, IsTrueOf-agrees}
 use Rattle.sok_closed.proofs.Followed.{leads-pushed}
 use Rattle.sok_closed.proofs.Looking.{standing-after}
-use Rattle.sok_cert.proofs.KnownPositions.{AllAgree, IsTrueOf-agrees}
-use Rattle.sok_closed.proofs.KnownPositions.{LeadsOn, solved-Same}
-use Rattle.sok_corral.proofs.Rearranging.{Rearranges, all-agree}
+use Rattle.sok_closed.proofs.KnownPositions.{AllAgree, LeadsOn, Rearranges, all-agree, solved-Same}
 use Rattle.sok_state.specs.declared.key.Key.{Key}
 use Rattle.sok_state.specs.declared.push.Push.{Push}
 use Rattle.sok_state.specs.Pushes.{IsLegal, LeadsTo}
@@ -45,7 +43,7 @@ record IsKnownAt (b : BoardView) (p : Progress) (depth : ℕ) (x : Position) : T
 
 -- or what solves from it agrees with a claim
 abbrev IsKnown : BoardView → Claim → Progress → ℕ → Position → Type 0
-IsKnown b claim p depth x = IsKnownAt b p depth x ⊎ AllAgree b.rows claim depth x
+IsKnown b claim p depth x = IsKnownAt b p depth x ⊎ AllAgree b.rows (Agrees claim) depth x
 
 agrees-at_most : (claim : Claim) (near depth n : ℕ) → near ≤ depth → IsAtMost claim (near + n) → Agrees claim depth n
 agrees-at_most Unsolvable near depth n within none = none
@@ -53,14 +51,14 @@ agrees-at_most (Pushes k) near depth n within enough = omega (arith, within, eno
 
 module _ (b : BoardView) (accepted : IsAccepted b) (claim : Claim) (key : Key) (depth deep : ℕ) (x : Position) (placed : IsPlaced b key.boxes key.least)
     (same : Same b.rows (key_position b key) x) (near : deep ≤ depth) where
-  agree-dead : IsDead b key.boxes → AllAgree b.rows claim depth x
+  agree-dead : IsDead b key.boxes → AllAgree b.rows (Agrees claim) depth x
   agree-dead (why, of_boxes, bars) w solves =
       let rest = rest_of claim deep in
       let barred = reasons-bar b accepted key.least key.boxes why rest placed (bars key.least rest) in
       Agrees-deeper claim deep depth _ near (Agrees-barred b claim deep key.least key.boxes barred x same w solves)
 
 agree-open : (b : BoardView) (whole : Bool) (claim : Claim) (key : Key) (depth deep : ℕ) (x : Position) → Same b.rows (key_position b key) x → deep ≤ depth
-    → CostsEnough b whole claim key.least key.boxes deep → AllAgree b.rows claim depth x
+    → CostsEnough b whole claim key.least key.boxes deep → AllAgree b.rows (Agrees claim) depth x
 agree-open b whole Unsolvable key depth deep x same near (n, bounded, none) w solves = absurd none
 agree-open b whole (Pushes k) key depth deep x same near (n, bounded, enough) w solves =
     let more = bounded.needs x same w solves in omega (arith, more, enough, near)
@@ -135,7 +133,7 @@ module _ (b : BoardView) (accepted : IsAccepted b) (limit : ℕ) (p : Progress) 
     -- by the standing of the state
     standing-known : (s : Standing) → Stands b p at.index at.key at.deep s
         → IsDone b p.frame.aim.whole claim (losses_of p.frame.losses) at.key.least at.key.boxes at.deep s
-        → AllAgree b.rows claim depth x ⊎ (LeadsOn b.rows (IsKnown b claim p) depth x ⊎ Rearranges b.rows (IsKnown b claim p) depth x)
+        → AllAgree b.rows (Agrees claim) depth x ⊎ (LeadsOn b.rows (IsKnown b claim p) depth x ⊎ Rearranges b.rows (IsKnown b claim p) depth x)
     standing-known (Open bound) stands enough = inl (agree-open b p.frame.aim.whole claim at.key depth at.deep x at.same at.near enough)
     standing-known (Expanded bound) (prices, unsolved, followed) expanded = inr (expanded-known unsolved followed)
     standing-known Dead stands dead = inl (agree-dead b accepted claim at.key depth at.deep x placed at.same at.near dead)
@@ -144,7 +142,7 @@ module _ (b : BoardView) (accepted : IsAccepted b) (limit : ℕ) (p : Progress) 
         (lost-never b at.key.least at.key.boxes (losses_of p.frame.losses) place lost accepted placed) w solves))
 
   known : (depth : ℕ) (x : Position) → IsKnown b claim p depth x
-      → AllAgree b.rows claim depth x ⊎ (LeadsOn b.rows (IsKnown b claim p) depth x ⊎ Rearranges b.rows (IsKnown b claim p) depth x)
+      → AllAgree b.rows (Agrees claim) depth x ⊎ (LeadsOn b.rows (IsKnown b claim p) depth x ⊎ Rearranges b.rows (IsKnown b claim p) depth x)
   known depth x (inr agree) = inl agree
   known depth x (inl at) =
       let (note, note_is, noted) = noted-at b limit p search at.index at.key at.deep at.there at.depth_is in
