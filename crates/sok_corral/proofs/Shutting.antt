@@ -1,5 +1,5 @@
 -- When a push of a box of a fence is shut.
-use Rattle.std.proofs.Common.{ℕ, ◌≡◌, ◌<◌, ◌∙◌, inl, inr, sym, subst, List, Some, None, true, false, true≢false, All, Contains, length}
+use Rattle.std.proofs.Common.{ℕ, ◌≡◌, ◌<◌, ◌∙◌, inl, inr, sym, subst, List, [], ◌∷◌, Some, None, true, false, true≢false, All, Contains, get_or, length, lit<}
 use Rattle.std.proofs.lemmas.List.Elements.{All-contains}
 use Rattle.std.proofs.lemmas.Option.{same_Some}
 use Rattle.sok_rules.specs.declared.cell.Dir.{Dir}
@@ -17,7 +17,7 @@ use Rattle.sok_state.specs.Pushes.{IsOpened}
 use Rattle.sok_corral.specs.Fences.{IsFence, Roams}
 use Rattle.sok_corral.proofs.Fences.{NeverAfter-stuck}
 use Rattle.sok_corral.specs.declared.lone.Lone.{Lone}
-use Rattle.sok_corral.specs.Fencing.{IsAstray, IsLone, IsShut, IsShutAlong, IsShutIn}
+use Rattle.sok_corral.specs.Fencing.{AreShutAlong, IsAstray, IsLone, IsShut, IsShutAlong}
 
 -- a square that a set of boxes draws
 drawn-box : (b : BoardView) → IsAccepted b → (boxes boxed : List ℕ) → Draws b (Contains boxes) boxed → (n : ℕ) → n < length b.area
@@ -72,20 +72,24 @@ module _ (b : BoardView) (accepted : IsAccepted b) (key : Key) (fence : List ℕ
   pub shut-none_behind : (d : Dir) → beside b from (opposite d) ≡ None → IsShutAlong b key fence from d
   shut-none_behind d none = λ m t within roams near far. let e = sym none ∙ beside-back b accepted.numbered d m from within near in absurd (cc e)
 
-  pub shut-in : IsShutAlong b key fence from Left → IsShutAlong b key fence from Up → IsShutAlong b key fence from Right → IsShutAlong b key fence from Down
-      → IsShutIn b key fence from
-  shut-in left up right down Left = left
-  shut-in left up right down Up = up
-  shut-in left up right down Right = right
-  shut-in left up right down Down = down
+-- the directions, in the order in which pushes are looked at
+abbrev pub dirs : List Dir
+dirs = Left ∷ Up ∷ Right ∷ Down ∷ []
+
+pub each-dir : (P : Dir → Type 0) → ((k : ℕ) → k < 4 → P (get_or dirs k Left)) → (d : Dir) → P d
+each-dir P each Left = each 0 (lit< tt)
+each-dir P each Up = each 1 (lit< tt)
+each-dir P each Right = each 2 (lit< tt)
+each-dir P each Down = each 3 (lit< tt)
 
 -- boxes are a fence if all their pushes are shut and a box that stays is astray
-pub IsFence-shut : (b : BoardView) (key : Key) (lone : Lone) → IsLone b key lone → All (IsShutIn b key lone.boxes.items) lone.boxes.items
+pub IsFence-shut : (b : BoardView) (key : Key) (scene : Scene) (lone : Lone) → IsOpened b key scene → IsLone b key lone
+    → All (λ from. (d : Dir) → AreShutAlong b scene lone from d) lone.boxes.items
     → (s : ℕ) → IsAstray b key.boxes lone.reached s → IsFence b key.least key.boxes lone.boxes.items
-IsFence-shut b key lone is shut s astray = record {
+IsFence-shut b key scene lone opened is shut s astray = record {
   among = is.among;
   pushed = λ d man from to within roams near among far.
-      All-contains (IsShutIn b key lone.boxes.items) lone.boxes.items from shut among d man to within roams near far;
+      All-contains (λ from. (d : Dir) → AreShutAlong b scene lone from d) lone.boxes.items from shut among d key opened is man to within roams near far;
   astray = (
     s,
     record {

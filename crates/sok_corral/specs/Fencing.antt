@@ -9,11 +9,14 @@ use Rattle.sok_region.specs.Layouts.{IsLaidOut}
 use Rattle.sok_region.specs.Regions.{IsPlaced}
 use Rattle.sok_state.specs.declared.key.Key.{Key}
 use Rattle.sok_state.specs.declared.push.Push.{Push}
+use Rattle.sok_state.specs.declared.scene.Scene.{Scene}
 use Rattle.sok_state.specs.Keys.{IsKey}
-use Rattle.sok_state.specs.Pushes.{IsLegal, ReachesFrom}
+use Rattle.sok_state.specs.Pushes.{IsLegal, IsOpened, ReachesFrom}
 use Rattle.sok_corral.specs.Fences.{IsFence, IsInward, NeverAfter, Roams, StaysAt}
 use Rattle.sok_corral.specs.declared.fencing.FenceScratch.{FenceScratch}
 use Rattle.sok_corral.specs.declared.lone.Lone.{Lone}
+use Rattle.sok_corral.specs.declared.testing.Finding.{Finding}
+use Rattle.sok_corral.specs.declared.testing.Finding.TheVariants.{Shut, Ajar}
 
 -- some boxes of a state, and the squares that the player could reach if there were no others
 pub record IsLone (b : BoardView) (key : Key) (lone : Lone) : Type 0 where
@@ -39,9 +42,14 @@ IsShutAlong b key fence from d =
     (man to : ℕ) → man < length b.area → Roams b key.least fence man → beside b man d ≡ Some from → beside b from d ≡ Some to
     → IsShut b key fence man from to
 
--- the same in each direction
-abbrev pub IsShutIn : BoardView → Key → List ℕ → ℕ → Type 0
-IsShutIn b key fence from = (d : Dir) → IsShutAlong b key fence from d
+-- and so it is in each state that has this scene and these boxes
+abbrev pub AreShutAlong : BoardView → Scene → Lone → ℕ → Dir → Type 0
+AreShutAlong b scene lone from d = (key : Key) → IsOpened b key scene → IsLone b key lone → IsShutAlong b key lone.boxes.items from d
+
+-- a look finds some pushes shut, or names squares of the area
+abbrev pub TellsShut : BoardView → Type 0 → Finding → Type 0
+TellsShut b AreShut Shut = AreShut
+TellsShut b AreShut (Ajar first second) = (first < length b.area) × (second < length b.area)
 
 -- a box outside a set of squares is off a goal
 pub record IsAstray (b : BoardView) (boxes reached : List ℕ) (s : ℕ) : Type 0 where

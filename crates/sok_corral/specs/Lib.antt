@@ -1,6 +1,4 @@
--- Definitions that public contracts use: `Corrals`, `Fences`, `Fencing`.
--- Definitions for the proofs alone: `Guessing` (what a look at some boxes finds).
+-- Definitions that public contracts use
 pub mod Corrals
 pub mod Fences
 pub mod Fencing
-pub mod Guessing

@@ -1,6 +1,6 @@
 //! Which pushes of a state are kept.
 
-ghost use Rattle.std.specs.Prelude.{ℕ, List, ◌≡◌, IfOk, OnOk, All, Contains};
+ghost use Rattle.std.specs.Prelude.{IfOk, OnOk, All, Contains};
 ghost use Rattle.sok_board.specs.Area.{IsAccepted};
 ghost use Rattle.sok_state.specs.declared.push.Push.{Push};
 ghost use Rattle.sok_state.specs.Keys.{IsKey};
@@ -10,11 +10,9 @@ ghost use Rattle.sok_corral.specs.Fencing.{AreKept, IsFenceScratch};
 use crate::guessing::{Candidate, guess};
 use crate::lone::Lone;
 use crate::patience::Patience;
-use crate::testing::is_fence;
 use sok_board::area::Sq;
 use sok_board::board::Board;
 use sok_distance::setting::Setting;
-use sok_field::field::Field;
 use sok_region::layout::Layout;
 use sok_rules::fault::Memory;
 use sok_state::key::Key;
@@ -28,8 +26,8 @@ pub struct FenceScratch {
     pub(crate) layout: Layout,
     pub(crate) lone: Lone,
     pub(crate) candidate: Candidate,
-    /// The squares of the guessed fence that has the fewest pushes.
-    pub(crate) best: Field,
+    /// The boxes of the fence with the fewest pushes that was found last.
+    pub(crate) best: Vec<Sq>,
     pub(crate) patience: Patience,
 }
 
@@ -42,7 +40,7 @@ impl FenceScratch {
             layout: Layout::new(alloc, board),
             lone: Lone::new(alloc),
             candidate: Candidate::new(),
-            best: Field::new(),
+            best: Vec::new(alloc),
             patience: Patience::new(alloc, board.squares())?,
         })
     }
@@ -72,11 +70,7 @@ impl FenceScratch {
         if !guess(self, setting, key, scene, pushes)? {
             return Ok(());
         }
-        let (lone, layout) = (&mut self.lone, &mut self.layout);
-        lone.lay(setting.board, key, &self.best, layout)?;
-        if is_fence(setting, key, scene, &self.lone, &mut self.layout) {
-            keep(&self.lone.boxes, pushes);
-        }
+        keep(&self.best, pushes);
         Ok(())
     }
 }

@@ -1,47 +1,34 @@
-//! Boxes that may fence off a corral. Nothing here is relied on: `testing` decides.
+//! Boxes that fence off a corral: which boxes are tried. `testing` says whether they do.
 
-ghost use Rattle.std.specs.Prelude.{◌<◌, IfSome, OnOk, All, Contains, length};
+ghost use Rattle.std.specs.Prelude.{◌≡◌, ◌<◌, IfOk, IfSome, IsTrue, OnOk, All, length};
 ghost use Rattle.sok_board.specs.Area.{IsAccepted};
-ghost use Rattle.sok_region.specs.Layouts.{IsLaidOut};
 ghost use Rattle.sok_state.specs.declared.key.Key.{Key};
 ghost use Rattle.sok_state.specs.Keys.{IsKey};
-ghost use Rattle.sok_state.specs.Pushes.{IsLegal};
-ghost use Rattle.sok_corral.specs.Fencing.{IsFenceScratch, IsLone};
-ghost use Rattle.sok_corral.specs.Guessing.{NamesSquares};
+ghost use Rattle.sok_state.specs.Pushes.{IsLegal, IsOpened};
+ghost use Rattle.sok_corral.specs.Fences.{IsFence};
+ghost use Rattle.sok_corral.specs.Fencing.{IsFenceScratch};
 
 use crate::fencing::FenceScratch;
-use crate::lone::Lone;
 use crate::sets::has;
-use crate::testing::{is_astray, is_shut};
+use crate::testing::{DIRS, Finding, is_astray, look};
 use sok_board::area::Sq;
 use sok_board::board::Board;
 use sok_distance::setting::Setting;
 use sok_field::drawing;
 use sok_field::field::{self, Field};
-use sok_region::layout::{Layout, put};
-use sok_rules::cell::{Dir, Spot};
+use sok_region::layout::put;
+use sok_rules::cell::Spot;
 use sok_rules::fault::Memory;
 use sok_state::key::Key;
 use sok_state::push::Push;
 use sok_state::scene::Scene;
+use std::mem;
 
 /// The maximum number of boxes of a fence. Larger ones are rare, and looking for them takes long.
 const FENCE_BOXES: usize = 8;
 
 /// How often boxes are added to a fence before it is given up.
 const ROUNDS: usize = 4;
-
-const DIRS: [Dir; 4] = [Dir::Left, Dir::Up, Dir::Right, Dir::Down];
-
-/// What a look at the pushes of some boxes finds.
-#[derive(Clone, Copy)]
-enum Finding {
-    /// Each of their pushes is shut.
-    Shut,
-    /// A push is not. It may be if boxes shut the player out from the first square, or else from the
-    /// second one.
-    Ajar(Sq, Sq),
-}
 
 /// Boxes that are collected to be a fence, and what is known of the state.
 #[derive(Drop)]
@@ -69,8 +56,8 @@ enum Growth {
     Loose,
 }
 
-/// Looks for a fence whose boxes have fewer pushes than the state. Returns whether one may be found,
-/// and leaves the squares of its boxes in `scratch.best`.
+/// Looks for fences whose boxes have fewer pushes than the state. Returns whether there is one, and
+/// leaves the boxes of the one with the fewest pushes in `scratch.best`.
 pub(crate) fn guess(
     scratch: &mut FenceScratch,
     setting: &Setting<'_>,
@@ -80,9 +67,12 @@ pub(crate) fn guess(
 ) -> Result<bool, Memory>
     requires accepted { IsAccepted setting.now.board.now }
     requires state { IsKey setting.now.board.now key.now }
+    requires opened { IsOpened setting.now.board.now key.now scene.now }
     requires ready { IsFenceScratch setting.now.board.now scratch.old }
     requires legal { All (IsLegal setting.now.board.now key.now) pushes.now }
-    ensures { OnOk result (IsFenceScratch setting.now.board.now scratch.new) }
+    ensures ready { OnOk result (IsFenceScratch setting.now.board.now scratch.new) }
+    ensures fence { IfOk result (λ found. IsTrue found
+        → IsFence setting.now.board.now key.now.least key.now.boxes scratch.new.best.items) }
 {
     let mut fewest = pushes.len();
     scratch.candidate.begin(setting, scene, pushes);
@@ -96,15 +86,15 @@ pub(crate) fn guess(
         let found = guess_around(scratch, setting, key, scene, pushes, start, fewest)?;
         if let Some(fewer) = found {
             fewest = fewer;
-            scratch.best.copy_from(&scratch.candidate.chosen);
+            mem::swap(&mut scratch.best, &mut scratch.lone.boxes);
             scratch.patience.regain(start);
         }
     }
     Ok(fewest < pushes.len())
 }
 
-/// Looks for a fence around the part of the area that has a square. Returns how many pushes its boxes
-/// have, if they are fewer than `fewest`.
+/// Looks for a fence around the part of the area that has a square. If its boxes have fewer pushes than
+/// `fewest`, returns how many, and leaves the boxes in `scratch.lone`.
 fn guess_around(
     scratch: &mut FenceScratch,
     setting: &Setting<'_>,
@@ -116,10 +106,14 @@ fn guess_around(
 ) -> Result<Option<usize>, Memory>
     requires accepted { IsAccepted setting.now.board.now }
     requires state { IsKey setting.now.board.now key.now }
+    requires opened { IsOpened setting.now.board.now key.now scene.now }
     requires ready { IsFenceScratch setting.now.board.now scratch.old }
     requires legal { All (IsLegal setting.now.board.now key.now) pushes.now }
     requires exists { start < length setting.now.board.now.area }
-    ensures { OnOk result (IsFenceScratch setting.now.board.now scratch.new) }
+    ensures ready { OnOk result (IsFenceScratch setting.now.board.now scratch.new) }
+    ensures best { scratch.new.best ≡ scratch.old.best }
+    ensures fence { IfOk result (λ found. IfSome found (λ _.
+        IsFence setting.now.board.now key.now.least key.now.boxes scratch.new.lone.boxes.items)) }
 {
     let boxes = key.boxes.list();
     scratch.candidate.clear();
@@ -134,7 +128,7 @@ fn guess_around(
         }
         let (lone, layout) = (&mut scratch.lone, &mut scratch.layout);
         lone.lay(setting.board, key, &scratch.candidate.chosen, layout)?;
-        match look(setting, scene, lone, layout, &lone.boxes) {
+        match look(setting, scene, lone, layout) {
             Finding::Shut => {
                 if !is_astray(setting.board, boxes, &scratch.lone.reached) {
                     return Ok(None);
@@ -178,7 +172,7 @@ impl Candidate {
     }
 
     /// Begins with a state that has these pushes. A box that can be pushed to a square that the
-    /// player reaches is in no fence, unless it is jammed there.
+    /// player reaches is taken for no fence, unless that square is stuck.
     fn begin(&mut self, setting: &Setting<'_>, scene: &Scene, pushes: &[Push])
         requires accepted { IsAccepted setting.now.board.now }
         requires legal { (key : Key) × All (IsLegal setting.now.board.now key) pushes.now }
@@ -296,66 +290,4 @@ impl Candidate {
     fn is_in_part(&self, row: u32, col: u32) -> bool {
         col < field::COLUMNS && self.part.has(Spot { row, col })
     }
-}
-
-/// Looks at each push of some boxes that are laid out alone.
-fn look(
-    setting: &Setting<'_>,
-    scene: &Scene,
-    lone: &Lone,
-    layout: &mut Layout,
-    boxes: &[Sq],
-) -> Finding
-    requires accepted { IsAccepted setting.now.board.now }
-    requires exist { All (λ n. n < length setting.now.board.now.area) boxes.now }
-    requires there { All (Contains lone.now.boxes.items) boxes.now }
-    requires lone { (key : Key) × IsLone setting.now.board.now key lone.now }
-    requires laid { IsLaidOut setting.now.board.now lone.now.boxes.items layout.old }
-    ensures laid { IsLaidOut setting.now.board.now lone.now.boxes.items layout.new }
-    ensures squares { NamesSquares setting.now.board.now result }
-{
-    for from in boxes {
-        for dir in DIRS {
-            let finding = look_along(setting, scene, lone, layout, *from, dir);
-            if !matches!(finding, Finding::Shut) {
-                return finding;
-            }
-        }
-    }
-    Finding::Shut
-}
-
-/// Looks at the push of a box in one direction.
-fn look_along(
-    setting: &Setting<'_>,
-    scene: &Scene,
-    lone: &Lone,
-    layout: &mut Layout,
-    from: Sq,
-    dir: Dir,
-) -> Finding
-    requires accepted { IsAccepted setting.now.board.now }
-    requires exists { from < length setting.now.board.now.area }
-    requires there { Contains lone.now.boxes.items from }
-    requires lone { (key : Key) × IsLone setting.now.board.now key lone.now }
-    requires laid { IsLaidOut setting.now.board.now lone.now.boxes.items layout.old }
-    ensures laid { IsLaidOut setting.now.board.now lone.now.boxes.items layout.new }
-    ensures squares { NamesSquares setting.now.board.now result }
-{
-    let board = setting.board;
-    let Some(man) = board.neighbour(from, dir.opposite()) else {
-        return Finding::Shut;
-    };
-    let Some(to) = board.neighbour(from, dir) else {
-        return Finding::Shut;
-    };
-    if is_shut(setting, scene, lone, layout, man, from, to) {
-        return Finding::Shut;
-    }
-    let comes = has(board, &scene.reached, man);
-    let leaves = has(board, &lone.reached, to);
-    if !leaves || has(board, &scene.reached, to) {
-        return Finding::Ajar(man, man);
-    }
-    Finding::Ajar(to, if comes { to } else { man })
 }

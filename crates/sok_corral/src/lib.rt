@@ -4,11 +4,11 @@
 //! | Module | What it holds |
 //! |---|---|
 //! | `fencing` | which pushes of a state are kept |
-//! | `guessing` | looking for boxes that may be a fence (private) |
+//! | `guessing` | which boxes are tried as a fence (private) |
 //! | `lone` | some boxes of a state, alone on the board (private) |
-//! | `patience` | where fences are looked for in vain (private) |
+//! | `patience` | attempts that are skipped (private) |
 //! | `sets` | the squares of the area in a set (private) |
-//! | `testing` | whether boxes are a fence (private) |
+//! | `testing` | whether pushes are shut, and whether a box is astray (private) |
 #![tactic(auto)]
 
 pub mod fencing;

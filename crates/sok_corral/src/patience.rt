@@ -1,27 +1,28 @@
-//! Where fences are looked for in vain.
+//! Attempts to find a fence that are skipped, since many like them have failed.
 
 use sok_board::area::Sq;
 use sok_rules::fault::Memory;
 use std::alloc::Global;
 
-/// After so many failures in a row around a square, a fence is looked for there only every eighth time.
+/// Once this many attempts in a row from a square have failed, only every eighth one there is made.
 const FAILURES: u32 = 32;
 
-/// How often in a row no fence was found, by the square around which it was looked for.
+/// For each square, counts the attempts from there since one last found a fence. Those that are skipped
+/// count too.
 #[derive(Drop)]
 pub(crate) struct Patience {
     failures: Vec<u32>,
 }
 
 impl Patience {
-    /// Makes one for a board of so many squares. Errors: `Memory`.
+    /// Begins to count for a board with so many squares. Errors: `Memory`.
     pub(crate) fn new(alloc: Global, squares: usize) -> Result<Patience, Memory> {
         Ok(Patience {
             failures: vec![in alloc; 0; squares]?,
         })
     }
 
-    /// Returns whether to look for a fence around a square. Counts a failure until one is found.
+    /// Counts an attempt from a square as failed, and returns whether to make it.
     pub(crate) fn lets(&mut self, square: Sq) -> bool {
         let Some(failures) = self.failures.get_mut(square as usize) else {
             return true;
@@ -31,7 +32,7 @@ impl Patience {
         before < FAILURES || before % 8 == 0
     }
 
-    /// Forgets the failures, since a fence was found there.
+    /// Resets the count of a square, since the attempt from there found a fence.
     pub(crate) fn regain(&mut self, square: Sq) {
         if let Some(failures) = self.failures.get_mut(square as usize) {
             *failures = 0;

@@ -1,13 +1,13 @@
-//! Whether boxes are a fence. This is what the proof rests on.
+//! Whether pushes are shut, and whether a box is astray. This is what the proof rests on.
 
 ghost use Rattle.std.specs.Prelude.{ℕ, ◌<◌, IsTrue, All, Contains, length};
+ghost use Rattle.sok_rules.specs.declared.cell.Dir.{Dir};
 ghost use Rattle.sok_board.specs.Area.{IsAccepted};
 ghost use Rattle.sok_region.specs.Layouts.{IsLaidOut};
 ghost use Rattle.sok_state.specs.declared.key.Key.{Key};
-ghost use Rattle.sok_state.specs.Keys.{IsKey};
 ghost use Rattle.sok_state.specs.Pushes.{IsOpened};
-ghost use Rattle.sok_corral.specs.Fences.{IsFence, NeverAfter, Roams};
-ghost use Rattle.sok_corral.specs.Fencing.{IsAstray, IsLone, IsShut, IsShutAlong, IsShutIn};
+ghost use Rattle.sok_corral.specs.Fences.{NeverAfter, Roams};
+ghost use Rattle.sok_corral.specs.Fencing.{AreShutAlong, IsAstray, IsLone, IsShut, TellsShut};
 
 use crate::lone::Lone;
 use crate::sets::has;
@@ -20,6 +20,8 @@ use sok_region::layout::Layout;
 use sok_rules::cell::Dir;
 use sok_state::key::Key;
 use sok_state::scene::Scene;
+
+pub(crate) const DIRS: [Dir; 4] = [Dir::Left, Dir::Up, Dir::Right, Dir::Down];
 
 /// Returns whether one of these boxes, alone on the board, is pushed into a jam of them. The push is
 /// made in `layout` and taken back.
@@ -44,7 +46,7 @@ fn is_jammed(setting: &Setting<'_>, lone: &Lone, layout: &mut Layout, from: Sq, 
 
 /// Returns whether a push of a fence's box is blocked by a box that stays, or leads to no solution, or
 /// leads out of the player's squares and can be made now.
-pub(crate) fn is_shut(
+fn is_shut(
     setting: &Setting<'_>,
     scene: &Scene,
     lone: &Lone,
@@ -84,89 +86,77 @@ pub(crate) fn is_shut(
     is_jammed(setting, lone, layout, from, to)
 }
 
-/// The same of the push of a box in one direction.
-fn is_shut_along(
+/// What a look at the pushes of some boxes finds.
+#[derive(Clone, Copy)]
+pub(crate) enum Finding {
+    /// Each of their pushes is shut.
+    Shut,
+    /// A push is not. It may be if boxes shut the player out from the first square, or else from the
+    /// second one.
+    Ajar(Sq, Sq),
+}
+
+/// Looks at the push of a box in one direction.
+fn look_along(
     setting: &Setting<'_>,
     scene: &Scene,
     lone: &Lone,
     layout: &mut Layout,
     from: Sq,
     dir: Dir,
-) -> bool
+) -> Finding
     requires accepted { IsAccepted setting.now.board.now }
     requires exists { from < length setting.now.board.now.area }
     requires there { Contains lone.now.boxes.items from }
     requires lone { (key : Key) × IsLone setting.now.board.now key lone.now }
     requires laid { IsLaidOut setting.now.board.now lone.now.boxes.items layout.old }
     ensures laid { IsLaidOut setting.now.board.now lone.now.boxes.items layout.new }
-    ensures shut { (key : Key) → IsOpened setting.now.board.now key scene.now
-        → IsLone setting.now.board.now key lone.now → IsTrue result
-        → IsShutAlong setting.now.board.now key lone.now.boxes.items from dir }
+    ensures shut { TellsShut setting.now.board.now
+        (AreShutAlong setting.now.board.now scene.now lone.now from dir) result }
 {
     let board = setting.board;
     let Some(man) = board.neighbour(from, dir.opposite()) else {
-        return true;
+        return Finding::Shut;
     };
     let Some(to) = board.neighbour(from, dir) else {
-        return true;
+        return Finding::Shut;
     };
-    is_shut(setting, scene, lone, layout, man, from, to)
+    if is_shut(setting, scene, lone, layout, man, from, to) {
+        return Finding::Shut;
+    }
+    let comes = has(board, &scene.reached, man);
+    let leaves = has(board, &lone.reached, to);
+    if !leaves || has(board, &scene.reached, to) {
+        return Finding::Ajar(man, man);
+    }
+    Finding::Ajar(to, if comes { to } else { man })
 }
 
-/// The same in each direction.
-fn is_shut_in(
+/// Looks at each push of some boxes of a state that are laid out alone.
+pub(crate) fn look(
     setting: &Setting<'_>,
     scene: &Scene,
     lone: &Lone,
     layout: &mut Layout,
-    from: Sq,
-) -> bool
+) -> Finding
     requires accepted { IsAccepted setting.now.board.now }
-    requires exists { from < length setting.now.board.now.area }
-    requires there { Contains lone.now.boxes.items from }
+    requires exist { All (λ n. n < length setting.now.board.now.area) lone.now.boxes.items }
     requires lone { (key : Key) × IsLone setting.now.board.now key lone.now }
     requires laid { IsLaidOut setting.now.board.now lone.now.boxes.items layout.old }
     ensures laid { IsLaidOut setting.now.board.now lone.now.boxes.items layout.new }
-    ensures shut { (key : Key) → IsOpened setting.now.board.now key scene.now
-        → IsLone setting.now.board.now key lone.now → IsTrue result
-        → IsShutIn setting.now.board.now key lone.now.boxes.items from }
+    ensures shut { TellsShut setting.now.board.now
+        (All (λ from. (d : Dir) → AreShutAlong setting.now.board.now scene.now lone.now from d)
+        lone.now.boxes.items) result }
 {
-    if !is_shut_along(setting, scene, lone, layout, from, Dir::Left) {
-        return false;
-    }
-    if !is_shut_along(setting, scene, lone, layout, from, Dir::Up) {
-        return false;
-    }
-    if !is_shut_along(setting, scene, lone, layout, from, Dir::Right) {
-        return false;
-    }
-    is_shut_along(setting, scene, lone, layout, from, Dir::Down)
-}
-
-/// The same of each of some boxes.
-fn are_shut_in(
-    setting: &Setting<'_>,
-    scene: &Scene,
-    lone: &Lone,
-    layout: &mut Layout,
-    boxes: &[Sq],
-) -> bool
-    requires accepted { IsAccepted setting.now.board.now }
-    requires exist { All (λ from. from < length setting.now.board.now.area) boxes.now }
-    requires there { All (Contains lone.now.boxes.items) boxes.now }
-    requires lone { (key : Key) × IsLone setting.now.board.now key lone.now }
-    requires laid { IsLaidOut setting.now.board.now lone.now.boxes.items layout.old }
-    ensures laid { IsLaidOut setting.now.board.now lone.now.boxes.items layout.new }
-    ensures shut { (key : Key) → IsOpened setting.now.board.now key scene.now
-        → IsLone setting.now.board.now key lone.now → IsTrue result
-        → All (IsShutIn setting.now.board.now key lone.now.boxes.items) boxes.now }
-{
-    for from in boxes {
-        if !is_shut_in(setting, scene, lone, layout, *from) {
-            return false;
+    for from in &lone.boxes {
+        for dir in DIRS {
+            match look_along(setting, scene, lone, layout, *from, dir) {
+                Finding::Shut => {}
+                Finding::Ajar(first, second) => return Finding::Ajar(first, second),
+            }
         }
     }
-    true
+    Finding::Shut
 }
 
 /// Returns whether some box outside a set of squares is off a goal.
@@ -181,25 +171,4 @@ pub(crate) fn is_astray(board: &Board, boxes: &[Sq], reached: &Field) -> bool
         }
     }
     false
-}
-
-/// Returns whether some boxes of a state are a fence.
-pub(crate) fn is_fence(
-    setting: &Setting<'_>,
-    key: &Key,
-    scene: &Scene,
-    lone: &Lone,
-    layout: &mut Layout,
-) -> bool
-    requires accepted { IsAccepted setting.now.board.now }
-    requires state { IsKey setting.now.board.now key.now }
-    requires opened { IsOpened setting.now.board.now key.now scene.now }
-    requires lone { IsLone setting.now.board.now key.now lone.now }
-    requires laid { IsLaidOut setting.now.board.now lone.now.boxes.items layout.old }
-    ensures laid { IsLaidOut setting.now.board.now lone.now.boxes.items layout.new }
-    ensures fence { IsTrue result → IsFence setting.now.board.now key.now.least key.now.boxes
-        lone.now.boxes.items }
-{
-    are_shut_in(setting, scene, lone, layout, &lone.boxes)
-        && is_astray(setting.board, key.boxes.list(), &lone.reached)
 }
