@@ -1,14 +1,11 @@
 -- What the table and the notes tell of a state that is added, and what is known of one that was taken.
-use Rattle.std.proofs.Common.{ℕ, ◌≡◌, ◌<◌, ◌≤◌, ◌+◌, ◌∙◌, ap, subst, Bool, true, false, [], ◌∷◌, Some, arith, length, slice_get}
+use Rattle.std.proofs.Common.{ℕ, ◌≡◌, ◌<◌, ◌∙◌, ap, subst, Bool, true, false, [], ◌∷◌, Some, arith, length, slice_get}
 use Rattle.std.specs.Map.{keys_of, values_of}
 use Rattle.std.proofs.lemmas.List.{map-append}
 use Rattle.std.proofs.lemmas.Option.{none-some}
-use Rattle.sok_board.specs.Area.{BoardView, IsAccepted}
+use Rattle.sok_board.specs.Area.{BoardView}
 use Rattle.sok_state.specs.declared.key.Key.{Key}
-use Rattle.sok_state.specs.declared.push.Push.{Push}
-use Rattle.sok_state.specs.declared.scene.Scene.{Scene}
 use Rattle.sok_state.specs.Keys.{IsKey}
-use Rattle.sok_state.specs.Pushes.{IsLegal, IsOpened, IsPushable}
 use Rattle.sok_state.specs.Tables.{Entries, Enters, GoesLast, IsAt}
 use Rattle.sok_search.specs.declared.note.Note.{Note}
 use Rattle.sok_search.specs.Searches.{Frame, Progress, IsNoted, IsSearch}
@@ -50,25 +47,6 @@ taken b limit index p key depth search there depth_is =
 pub taken-key : (b : BoardView) (limit index : ℕ) (p : Progress) (key : Key) (depth : ℕ) → IsSearch b limit (holding index p) → IsAt p.table key index
     → slice_get (values_of p.table) index ≡ Some depth → IsKey b key
 taken-key b limit index p key depth search there depth_is = (taken b limit index p key depth search there depth_is).noted.state
-
--- so a push from it can be made
-pub taken-pushable : (b : BoardView) → IsAccepted b → (limit index : ℕ) (p : Progress) (key : Key) (depth : ℕ) → IsSearch b limit (holding index p)
-    → IsAt p.table key index → slice_get (values_of p.table) index ≡ Some depth → (push : Push) → IsLegal b key push → (scene : Scene)
-    → IsOpened b key scene → IsPushable b push scene key
-taken-pushable b accepted limit index p key depth search there depth_is push legal scene opened =
-    let one = taken b limit index p key depth search there depth_is in
-    let as_many = one.noted.as_many in
-    let few = accepted.few_boxes in
-    record { state = one.noted.state; few = omega (arith, as_many, few); legal = legal; opened = opened }
-
--- its depth is below the limit
-pub taken-deep : (b : BoardView) (limit index : ℕ) (p : Progress) (key : Key) (depth : ℕ) → IsSearch b limit (holding index p) → IsAt p.table key index
-    → slice_get (values_of p.table) index ≡ Some depth → depth + 1 ≤ limit
-taken-deep b limit index p key depth search there depth_is =
-    let shallow = (taken b limit index p key depth search there depth_is).noted.shallow in
-    let within = key-within p index key there in
-    let few = search.few in
-    omega (arith, shallow, within, few)
 
 -- where a key stands, a note stands
 pub note-within : (b : BoardView) (limit index : ℕ) (p : Progress) → IsSearch b limit (holding index p) → (at : ℕ) (key : Key) → IsAt p.table key at

@@ -1,4 +1,4 @@
--- Losses and lifts are asked before a push is followed: what is found lost is left out or kept as lost. And how the state stands that it leads to.
+-- Lifts and losses are asked of a new state: what is found lost is left out, or kept as lost. And how a new state stands.
 use Rattle.std.proofs.Common.{ℕ, ◌≡◌, sym, subst, Bool, List, Option, None, Some, IfSome, true, true≢false}
 use Rattle.std.specs.Option.{is_some}
 use Rattle.sok_rules.specs.Play.{Position}

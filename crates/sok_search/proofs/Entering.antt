@@ -1,30 +1,73 @@
--- The state that a step leads to.
-use Rattle.std.proofs.Common.{ℕ}
-use Rattle.sok_board.specs.Area.{BoardView}
+-- The state that is visited, and the state that a push leads to from it.
+use Rattle.std.proofs.Common.{ℕ, ◌≡◌, ◌<◌, ◌+◌, ◌^◌, inr, refl, Some, arith, length}
+use Rattle.sok_board.specs.Area.{BoardView, beside}
 use Rattle.sok_board.specs.BoxSets.{put_in_order}
+use Rattle.sok_closed.proofs.Starting.{at-within}
 use Rattle.sok_state.specs.declared.key.Key.{Key}
+use Rattle.sok_state.specs.declared.push.Push.{Push}
 use Rattle.sok_state.specs.declared.scene.Scene.{Scene}
-use Rattle.sok_state.specs.Pushes.{IsOpened, IsPushable}
+use Rattle.sok_state.specs.Keys.{IsKey}
+use Rattle.sok_state.specs.Pushes.{IsKeyAfter, IsLegal, IsOpened, IsPushable}
+use Rattle.sok_state.specs.Tables.{IsNext}
 use Rattle.sok_state.proofs.Stepped.{ComesNext, comes-next, next_of}
 use Rattle.sok_search.specs.declared.search.Search.{Search}
-use Rattle.sok_search.specs.declared.step.Step.{Step}
+use Rattle.sok_search.specs.declared.step.Visit.{Visit}
 use Rattle.sok_search.specs.PushScratches.{AreMoved}
-use Rattle.sok_search.specs.Steps.{IsStep}
-use Rattle.sok_search.specs.Views.{HoldsState, progress_of}
-use Rattle.sok_search.proofs.Adding.{taken-pushable}
+use Rattle.sok_search.specs.Searches.{IsLeftOut}
+use Rattle.sok_search.specs.Views.{HasPushed, HoldsState, progress_of}
+use Rattle.sok_search.proofs.Adding.{IsTaken, taken}
+use Rattle.sok_search.proofs.Invariant.{Grows-refl}
 use Rattle.sok_search.proofs.Moving.{moved-next}
 
--- its key, with the boxes put in order
-abbrev pub next : Key → Step → Key
-next key step = next_of key step.push.from step.to step.least
+module _ (b : BoardView) (v : Visit) (search : Search) (held : HoldsState b v search) where
+  pub was : IsTaken b (progress_of search) v.index v.key.now v.depth
+  was = taken b v.limit v.index (progress_of search) v.key.now v.depth held.running.search held.there held.depth_is
 
-module _ (b : BoardView) (limit index : ℕ) (search : Search) (held_key : Key) (depth : ℕ) (held : HoldsState b limit index held_key depth search) (scene : Scene)
-    (opened : IsOpened b held_key scene) (step : Step) (is : IsStep b held_key step) where
-  pub can : IsPushable b step.push scene held_key
-  can = taken-pushable b held.running.accepted limit index (progress_of search) held_key depth held.running.search held.there held.depth_is step.push is.legal scene opened
+  pub state : IsKey b v.key.now
+  state = was.noted.state
 
-  pub comes : ComesNext b held_key step.push step.to step.least
-  comes = comes-next b held.running.accepted held_key step.push step.to step.least scene can is.ahead is.next
+  pub within : v.index < length search.table.entries
+  within = at-within search.table.entries v.key.now v.index held.there
 
-  pub moved : AreMoved b held_key.boxes step.push.from step.to (put_in_order step.push.from step.to held_key.boxes)
-  moved = moved-next b held.running.accepted held_key (next held_key step) step.push step.to can.state can.few comes.came.of_board is.legal comes.came.exact is.ahead
+  -- its index is small, and so is its depth
+  pub small_index : v.index < 2 ^ 32
+  small_index =
+      let inside = within in
+      let few = held.running.search.few in
+      let small = held.small in
+      omega (arith, inside, few, small)
+
+  pub small_depth : v.depth + 1 < 2 ^ 32
+  small_depth =
+      let inside = within in
+      let few = held.running.search.few in
+      let small = held.small in
+      let shallow = was.noted.shallow in
+      omega (arith, inside, few, small, shallow)
+
+  -- a push that may be left out is followed at once
+  pub left_out : (push : Push) → IsLeftOut b search.aim v.key.now v.depth push → HasPushed b v push search search
+  left_out push left = record {
+    search = held.running.search;
+    aim = refl;
+    grows = Grows-refl search.table.entries;
+    stay = λ i key deep note shallow known. known;
+    met = inr left;
+    no_more = omega arith;
+  }
+
+  module _ (scene : Scene) (opened : IsOpened b v.key.now scene) (push : Push) (legal : IsLegal b v.key.now push) where
+    pub can : IsPushable b push scene v.key.now
+    can =
+        let as_many = was.noted.as_many in
+        let few = held.running.accepted.few_boxes in
+        record { state = state; few = omega (arith, as_many, few); legal = legal; opened = opened }
+
+    module _ (to least : ℕ) (ahead : beside b push.from push.dir ≡ Some to)
+        (next : (next : Key) → IsNext v.key.now push.from to least next → IsKeyAfter b v.key.now push next) where
+      pub comes : ComesNext b v.key.now push to least
+      comes = comes-next b held.running.accepted v.key.now push to least scene can ahead next
+
+      pub moved : AreMoved b v.key.now.boxes push.from to (put_in_order push.from to v.key.now.boxes)
+      moved = moved-next b held.running.accepted v.key.now (next_of v.key.now push.from to least) push to can.state can.few comes.came.of_board legal
+          comes.came.exact ahead

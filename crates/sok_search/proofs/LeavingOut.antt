@@ -1,6 +1,6 @@
 -- A push that brings a box to where it reaches no goal, or is lost with one or two others: nothing solves after it, so it may be left out. And so may one after
 -- which a bound leaves no fewer pushes than a solution has that is known.
-use Rattle.std.proofs.Common.{ℕ, List, ◌≡◌, ◌≤◌, ◌+◌, ◌∙◌, inl, inr, refl, sym, ap, subst, true, Bool, Option, Some, None, arith}
+use Rattle.std.proofs.Common.{ℕ, List, ◌≡◌, ◌≤◌, ◌+◌, ◌∙◌, inl, refl, sym, ap, subst, true, Bool, Option, Some, None, arith}
 use Rattle.sok_rules.specs.Play.{NeverFrom, Position, pushes}
 use Rattle.sok_rules.specs.States.{Same}
 use Rattle.sok_rules.proofs.Walking.{Same-sym}
@@ -23,9 +23,8 @@ use Rattle.sok_state.proofs.LegalPushes.{LeadsTo-position}
 use Rattle.sok_alone.specs.declared.losses.Loss.{Loss}
 use Rattle.sok_search.specs.declared.note.Standing.{Standing}
 use Rattle.sok_search.specs.declared.note.Standing.TheVariants.{Open, Expanded, Dead, Lost}
-use Rattle.sok_search.specs.Searches.{Progress, HasBound, IsBeaten, IsDead, IsLeftOut, IsSearch, IsSpared, LeadsNowhere, LeadsToNoFewer}
-use Rattle.sok_search.specs.Steps.{IsBoundedAs, IsPushed, holding}
-use Rattle.sok_search.proofs.Invariant.{Grows-refl}
+use Rattle.sok_search.specs.Searches.{HasBound, IsBeaten, IsDead, IsSpared, LeadsNowhere, LeadsToNoFewer}
+use Rattle.sok_search.specs.Steps.{IsBoundedAs}
 
 -- nothing solves once a box stands where it reaches no goal
 pub leads-nowhere : (b : BoardView) → IsAccepted b → (key : Key) → IsKey b key → (push : Push) → IsLegal b key push → (to : ℕ)
@@ -79,15 +78,3 @@ module _ (b : BoardView) (accepted : IsAccepted b) (key next : Key) (push : Push
   spared-no_fewer whole losses Dead dead upper depth spared = nowhere-no_fewer b upper key depth push (dead-nowhere dead)
   spared-no_fewer whole losses (Expanded bound) judged upper depth spared = absurd spared
   spared-no_fewer whole losses (Lost place) judged upper depth spared = absurd spared
-
--- so it may be left out
-pub pushed-left_out : (b : BoardView) (limit index : ℕ) (p : Progress) → IsSearch b limit (holding index p) → (key : Key) (depth : ℕ) (push : Push)
-    → IsLeftOut b p.frame.aim key depth push → IsPushed b limit (holding index p) key depth push (holding index p)
-pushed-left_out b limit index p search key depth push left = record {
-  search = search;
-  aim = refl;
-  grows = Grows-refl p.table;
-  stay = λ i k deep n shallow s. s;
-  met = inr left;
-  no_more = omega arith;
-}

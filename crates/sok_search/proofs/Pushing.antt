@@ -2,20 +2,22 @@
 use Rattle.std.proofs.Common.{ℕ, ◌≡◌, ◌<◌, ◌≤◌, ◌+◌, ◌∙◌, inl, inr, refl, sym, ap, subst, [], ◌∷◌, ◌++◌, Some, Contains, arith, length, slice_get}
 use Rattle.std.specs.Map.{keys_of, values_of}
 use Rattle.std.proofs.lemmas.Option.{same_Some, slice_get_within}
-use Rattle.sok_rules.specs.Play.{Position}
 use Rattle.sok_board.specs.Area.{BoardView, boxes_of}
 use Rattle.sok_board.proofs.Lists.{slice_get-push, slice_get-append}
 use Rattle.sok_state.specs.declared.key.Key.{Key}
 use Rattle.sok_state.specs.declared.push.Push.{Push}
-use Rattle.sok_state.specs.Keys.{IsKey, IsKeyOf}
-use Rattle.sok_state.specs.Pushes.{IsLegal, LeadsTo}
+use Rattle.sok_state.specs.Pushes.{IsKeyAfter, IsLegal}
 use Rattle.sok_state.specs.Tables.{Entries, IsAt, Stays}
 use Rattle.sok_alone.specs.declared.losses.Losses.{Losses}
 use Rattle.sok_search.specs.declared.note.Note.{Note}
 use Rattle.sok_search.specs.declared.note.Standing.{Standing}
 use Rattle.sok_search.specs.declared.note.Standing.TheVariants.{Open, Expanded, Dead, Lost}
-use Rattle.sok_search.specs.Searches.{Frame, Progress, IsCome, IsFrom, IsNoted, IsSearch, IsState, Stands}
+use Rattle.sok_search.specs.declared.search.Search.{Search}
+use Rattle.sok_search.specs.declared.step.Visit.{Visit}
+use Rattle.sok_search.specs.Searches.{Frame, Progress, IsCome, IsFrom, IsSearch, IsState, Stands}
 use Rattle.sok_search.specs.Steps.{IsAdded, IsChanged, IsJudgedIn, IsPushed, Nears, holding, knowing, reopened}
+use Rattle.sok_search.specs.Views.{HoldsState, progress_of}
+use Rattle.sok_search.proofs.Entering as held
 use Rattle.sok_search.proofs.TakenIndices.{added-holding, changed-holding, work-added, work-changed}
 use Rattle.sok_search.proofs.Changing.{added-grows, changed-grows, depth_count, keeps-added, keeps-changed, key_count, set_other, set_same}
 use Rattle.sok_search.proofs.Invariant.{Grows-refl}
@@ -42,51 +44,63 @@ judged-reopened b p i key depth (Expanded bound) (prices, unsolved, met) = price
 judged-reopened b p i key depth Dead dead = dead
 judged-reopened b p i key depth (Lost place) lost = lost
 
-module _ (b : BoardView) (limit index : ℕ) (p : Progress) (search : IsSearch b limit (holding index p)) (key : Key) (depth : ℕ)
-    (there : IsAt p.table key index)
-    (depth_is : slice_get (values_of p.table) index ≡ Some depth) (was : Note) (note_is : slice_get p.notes index ≡ Some was) (push : Push)
-    (legal : IsLegal b key push) (next : Key) (is : (after : Position) → LeadsTo b key push after → IsKeyOf b after next) (next_state : IsKey b next)
-    (kept : length next.boxes ≡ length key.boxes) where
-  noted : IsNoted b (holding index p) index key depth was
-  noted = search.noted index key depth was (record { there = there; depth_is = depth_is; note_is = note_is })
+module _ (b : BoardView) (v : Visit) (before : Search) (visited : HoldsState b v before) (push : Push) (legal : IsLegal b v.key.now push) (next : Key)
+    (came : IsKeyAfter b v.key.now push next) where
+  abbrev limit : ℕ
+  limit = v.limit
+
+  abbrev index : ℕ
+  index = v.index
+
+  abbrev key : Key
+  key = v.key.now
+
+  abbrev depth : ℕ
+  depth = v.depth
+
+  abbrev p : Progress
+  p = progress_of before
+
+  search : IsSearch b limit (holding index p)
+  search = visited.running.search
 
   as_many : length next.boxes ≡ length (boxes_of b)
-  as_many = kept ∙ noted.as_many
+  as_many = came.as_many ∙ (held.was b v before visited).noted.as_many
 
   from : IsFrom b (holding index p) next (depth + 1) (record { parent = index; push = push })
   from = record {
     parent = key;
-    there = there;
+    there = visited.there;
     deep = depth;
-    depth_is = depth_is;
+    depth_is = visited.depth_is;
     nearer = omega arith;
     after = legal.after;
     leads = legal.leads;
-    is = is legal.after legal.leads;
+    is = came.exact legal.after legal.leads;
   }
 
   pub shallow-next : depth + 1 ≤ length p.table
   shallow-next =
-      let within = key-within p index key there in
-      let shallow = noted.shallow in
+      let within = key-within p index key visited.there in
+      let shallow = (held.was b v before visited).noted.shallow in
       omega (arith, within, shallow)
 
   -- it is new
   module _ (absent : Contains (keys_of p.table) next → ⊥) (room : length p.table < limit) (note : Note)
       (origin : note.origin ≡ Some (record { parent = index; push = push })) (judged : IsJudgedIn b p.frame next note.standing) (q : Progress)
       (added : IsAdded p next (depth + 1) note q) where
-    held : IsAdded (holding index p) next (depth + 1) note (holding index q)
-    held = added-holding index p next (depth + 1) note q added
+    added-held : IsAdded (holding index p) next (depth + 1) note (holding index q)
+    added-held = added-holding index p next (depth + 1) note q added
 
     pub pushed-added : IsPushed b limit (holding index p) key depth push (holding index q)
     pushed-added =
-        let more = held in
+        let more = added-held in
         let grows = added-grows b limit (holding index p) (holding index q) next (depth + 1) note search more in
         let keys = key_count p.table in
         let depths = depth_count p.table in
         record {
           search = keeps-added b limit (holding index p) (holding index q) next (depth + 1) note search more absent room (record {
-            state = next_state;
+            state = came.of_board;
             as_many = as_many;
             shallow = shallow-next;
             come = subst (IsCome b (holding index p) next (depth + 1)) (sym origin) from;
@@ -102,7 +116,7 @@ module _ (b : BoardView) (limit index : ℕ) (p : Progress) (search : IsSearch b
           };
           met = inl (record {
             next = next;
-            is = is;
+            is = came.exact;
             index = length p.table;
             there = subst (λ xs. slice_get xs (length p.table) ≡ Some next) (sym added.keys)
                 (subst (λ n. slice_get (keys_of p.table ++ next ∷ []) n ≡ Some next) keys (slice_get-push (keys_of p.table) next));
@@ -132,7 +146,7 @@ module _ (b : BoardView) (limit index : ℕ) (p : Progress) (search : IsSearch b
           omega (arith, equal, lower, shallow) in
           record {
             search = keeps-changed b limit (holding index p) (holding index q) at next old (depth + 1) other note search at_state near more (record {
-              state = next_state;
+              state = came.of_board;
               as_many = as_many;
               shallow = omega (arith, own, near);
               come = subst (IsCome b (holding index p) next (depth + 1)) (sym origin) from;
@@ -148,7 +162,7 @@ module _ (b : BoardView) (limit index : ℕ) (p : Progress) (search : IsSearch b
             };
             met = inl (record {
               next = next;
-              is = is;
+              is = came.exact;
               index = at;
               there = grows.keys next at state.there;
               deep = depth + 1;
@@ -166,7 +180,7 @@ module _ (b : BoardView) (limit index : ℕ) (p : Progress) (search : IsSearch b
       aim = refl;
       grows = Grows-refl p.table;
       stay = λ i k deep n shallow s. s;
-      met = inl (record { next = next; is = is; index = at; there = state.there; deep = old; depth_is = state.depth_is; near = near });
+      met = inl (record { next = next; is = came.exact; index = at; there = state.there; deep = old; depth_is = state.depth_is; near = near });
       no_more = omega arith;
     }
 

@@ -11,6 +11,7 @@ use Rattle.sok_search.specs.declared.aim.Aim.{Aim}
 use Rattle.sok_search.specs.declared.note.Note.{Note}
 use Rattle.sok_search.specs.declared.note.Standing.{Standing}
 use Rattle.sok_search.specs.declared.note.Standing.TheVariants.{Open, Expanded, Dead, Lost}
+use Rattle.sok_search.specs.declared.step.Visit.{Visit}
 use Rattle.sok_search.specs.Searches.{Progress, AreEnough, IsBeaten, IsSearch, IsSolved, IsState, Stands}
 use Rattle.sok_search.specs.Steps.{HasOneMore, Queues, done, holding, work}
 use Rattle.sok_search.specs.Views.{HasExpanded, IsCutOff, IsTurned}
@@ -148,21 +149,23 @@ go-solved b limit index bound depth key p note search state is solved far =
       less = work-held limit index p;
     }
 
-pub go-on : (b : BoardView) (limit index bound depth : ℕ) (key : Key) (p q : Progress) (note : Note) → IsState p index key depth note
-    → note.standing ≡ Open bound → (IsSolved b key → ⊥) → HasExpanded b limit p index key depth q → (r : Progress)
-    → r ≡ done q (set q.notes index (record { origin = note.origin; standing = Expanded bound })) q.best
-    → IsTurned b limit (holding index p) r
-go-on b limit index bound depth key p q note state is unsolved expanded r same =
+pub go-on : (b : BoardView) (v : Visit) (bound : ℕ) (p q : Progress) (note : Note) → IsState p v.index v.key.now v.depth note → note.standing ≡ Open bound
+    → (IsSolved b v.key.now → ⊥) → HasExpanded b v p q → (r : Progress)
+    → r ≡ done q (set q.notes v.index (record { origin = note.origin; standing = Expanded bound })) q.best
+    → IsTurned b v.limit (holding v.index p) r
+go-on b v bound p q note state is unsolved expanded r same =
     let followed = expanded.followed in
-    let enough : AreEnough b q.frame.aim.whole key expanded.chosen = subst (λ aim. AreEnough b aim.whole key expanded.chosen) (sym followed.aim) expanded.enough in
-    let stays = followed.stay index key depth note (omega arith) state in
-    let s = done q (set q.notes index (record { origin = note.origin; standing = Expanded bound })) q.best in
-    let kept : IsSearch b limit s = keeps-expanded b limit q index key depth bound note followed.search stays is unsolved
+    let enough : AreEnough b q.frame.aim.whole v.key.now expanded.chosen =
+    subst (λ aim. AreEnough b aim.whole v.key.now expanded.chosen) (sym followed.aim) expanded.enough in
+    let stays = followed.stay v.index v.key.now v.depth note (omega arith) state in
+    let s = done q (set q.notes v.index (record { origin = note.origin; standing = Expanded bound })) q.best in
+    let kept : IsSearch b v.limit s = keeps-expanded b v.limit q v.index v.key.now v.depth bound note followed.search stays is unsolved
     (expanded.chosen, enough, followed.met) in
     let no_more = followed.no_more in
-    let less : work limit q < work limit (holding index q) = work-held limit index q in
-    let now : work limit s < work limit (holding index p) = below (work limit q) (work limit (holding index q)) (work limit (holding index p)) less no_more in
-    subst (IsTurned b limit (holding index p)) (sym same) (record { search = kept; aim = followed.aim; less = now })
+    let less : work v.limit q < work v.limit (holding v.index q) = work-held v.limit v.index q in
+    let now : work v.limit s < work v.limit (holding v.index p) =
+    below (work v.limit q) (work v.limit (holding v.index q)) (work v.limit (holding v.index p)) less no_more in
+    subst (IsTurned b v.limit (holding v.index p)) (sym same) (record { search = kept; aim = followed.aim; less = now })
   where
     below : (x y z : ℕ) → x < y → y ≤ z → x < z
     below x y z f g = omega (arith, f, g)

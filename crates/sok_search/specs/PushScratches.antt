@@ -25,6 +25,11 @@ pub record ServesPushes (b : BoardView) (boxes : List ℕ) (matching : KeptMatch
 abbrev pub IsPushScratch : BoardView → List ℕ → PushScratch → Type 0
 IsPushScratch b boxes scratch = ServesPushes b boxes scratch.matching scratch.matched scratch.lifts
 
+-- and in which a state is loaded
+pub record IsLoaded (b : BoardView) (key : Key) (scratch : PushScratch) : Type 0 where
+  pub serves : IsPushScratch b key.boxes scratch
+  pub opened : IsOpened b key scratch.scene
+
 -- the last expanded state: it has few boxes, is laid out, and its pushes are legal
 pub record IsLast (b : BoardView) (scene : Scene) (pushes : List Push) (last : Key) : Type 0 where
   pub state : IsKey b last

@@ -2,6 +2,7 @@
 use Rattle.std.specs.Prelude.{ℕ, ◌≡◌, ◌<◌, ◌≤◌, ◌+◌, ◌-◌, ◌*◌, ◌⊎◌, ◌↔◌, Bool, true, List, [], ◌∷◌, ◌++◌, Option, Some, MatchOption, Contains, length, slice_get, slice_set, sum_by}
 use Rattle.std.specs.Map.{keys_of, values_of}
 use Rattle.sok_board.specs.Area.{BoardView, beside}
+use Rattle.sok_board.specs.BoxSets.{put_in_order}
 use Rattle.sok_state.specs.declared.key.Key.{Key}
 use Rattle.sok_state.specs.declared.push.Push.{Push}
 use Rattle.sok_state.specs.Pushes.{IsKeyAfter, IsLegal}
@@ -16,6 +17,7 @@ use Rattle.sok_search.specs.declared.note.Origin.{Origin}
 use Rattle.sok_search.specs.declared.note.Standing.{Standing}
 use Rattle.sok_search.specs.declared.note.Standing.TheVariants.{Open, Expanded, Dead, Lost}
 use Rattle.sok_search.specs.declared.step.Step.{Step}
+use Rattle.sok_search.specs.PushScratches.{AreMoved}
 use Rattle.sok_search.specs.Searches.{Frame, Progress, HasBound, HasPrice, IsDead, IsMet, IsSearch, IsState}
 
 -- each state keeps its place, and its depth does not grow
@@ -140,10 +142,11 @@ IsRaised t whole player boxes old new = new ≡ old
 abbrev pub work : ℕ → Progress → ℕ
 work limit p = (limit - length p.table) * (2 * limit + 2) + (2 * sum_by (λ depth. depth) (values_of p.table) + length p.queue)
 
--- a push of a state is legal, and leads to this square and this least square
+-- a push of a state is legal, moves its box to this square, and leaves the player where this square is the least that he reaches
 pub record IsStep (b : BoardView) (key : Key) (step : Step) : Type 0 where
   pub legal : IsLegal b key step.push
   pub ahead : beside b step.push.from step.push.dir ≡ Some step.to
+  pub moved : AreMoved b key.boxes step.push.from step.to (put_in_order step.push.from step.to key.boxes)
   pub next : (next : Key) → IsNext key step.push.from step.to step.least next → IsKeyAfter b key step.push next
 
 -- a push was followed: the invariant holds, states that are no deeper stay as they were, the push is met, and no work was added

@@ -103,7 +103,7 @@ fn widen(numbers: &mut Vec<u32>, squares: &[Sq]) -> Result<(), Memory>
     Ok(())
 }
 
-/// Returns the state at an index.
+/// Returns the key of the state at an index, its depth and its note.
 fn state_at(alloc: Global, search: &Search, index: usize) -> Result<(Key, u32, Note), Memory>
     requires search { (b : BoardView) × IsSearching b (progress_of search.now) }
     requires within { index < length search.now.table.entries }

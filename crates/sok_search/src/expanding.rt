@@ -8,15 +8,15 @@ ghost use Rattle.sok_state.specs.Keys.{IsKey};
 ghost use Rattle.sok_state.specs.declared.push.Push.{Push};
 ghost use Rattle.sok_state.specs.Pushes.{IsLegal, IsOpened};
 ghost use Rattle.sok_corral.specs.Fencing.{IsFenceScratch};
-ghost use Rattle.sok_search.specs.PushScratches.{IsReady, IsPushScratch};
+ghost use Rattle.sok_search.specs.PushScratches.{IsLoaded, IsReady};
 ghost use Rattle.sok_search.specs.Searches.{AreEnough};
-ghost use Rattle.sok_search.specs.Steps.{holding};
-ghost use Rattle.sok_search.specs.Views.{progress_of, CutsOff, HasExpanded, HasFollowed, HoldsState};
+ghost use Rattle.sok_search.specs.Views.{progress_of, CutsVisit, HasExpanded, HasFollowed, HoldsState};
 
 use crate::note::Origin;
 use crate::push_scratch::PushScratch;
 use crate::reaching::reach;
 use crate::search::Search;
+use crate::step::Visit;
 use crate::stop::Stop;
 use sok_board::board::Board;
 use sok_corral::fencing::FenceScratch;
@@ -192,43 +192,26 @@ fn is_listed(pushes: &[Push], push: Push) -> bool
     false
 }
 
-/// Generates the successors of `key` by some of its legal pushes.
+/// Generates the successors of a state by some of its legal pushes.
 fn follow(
     alloc: Global,
     setting: &Setting<'_>,
-    limit: u32,
     search: &mut Search,
     push_scratch: &mut PushScratch,
-    index: usize,
-    key: &Key,
-    depth: u32,
+    visit: &Visit<'_>,
     pushes: &[Push],
 ) -> Result<(), Stop>
-    requires state { HoldsState setting.now.board.now limit index key.now depth search.old }
-    requires push_scratch { IsPushScratch setting.now.board.now key.now.boxes push_scratch.old }
-    requires opened { IsOpened setting.now.board.now key.now push_scratch.old.scene }
-    requires legal { All (IsLegal setting.now.board.now key.now) pushes.now }
-    ensures push_scratch { OnOk result
-        (IsPushScratch setting.now.board.now key.now.boxes push_scratch.new) }
-    ensures opened { OnOk result (IsOpened setting.now.board.now key.now push_scratch.new.scene) }
-    ensures followed { OnOk result (HasFollowed setting.now.board.now limit
-        (progress_of search.old) index key.now depth (Contains pushes.now)
-        (progress_of search.new)) }
-    ensures cut { CutsOff setting.now.board.now limit search.old
-        (holding index (progress_of search.new)) result }
+    requires state { HoldsState setting.now.board.now visit.now search.old }
+    requires loaded { IsLoaded setting.now.board.now visit.now.key.now push_scratch.old }
+    requires legal { All (IsLegal setting.now.board.now visit.now.key.now) pushes.now }
+    ensures loaded { OnOk result
+        (IsLoaded setting.now.board.now visit.now.key.now push_scratch.new) }
+    ensures followed { OnOk result (HasFollowed setting.now.board.now visit.now
+        (progress_of search.old) (Contains pushes.now) (progress_of search.new)) }
+    ensures cut { CutsVisit setting.now.board.now visit.now search.old search.new result }
 {
     for push in pushes {
-        reach(
-            alloc,
-            setting,
-            limit,
-            search,
-            push_scratch,
-            index,
-            key,
-            depth,
-            *push,
-        )?;
+        reach(alloc, setting, search, push_scratch, visit, *push)?;
     }
     Ok(())
 }
@@ -237,35 +220,23 @@ fn follow(
 pub(crate) fn expand(
     alloc: Global,
     setting: &Setting<'_>,
-    limit: u32,
     search: &mut Search,
     scratch: &mut Scratch,
-    index: usize,
-    key: &Key,
-    depth: u32,
+    visit: &Visit<'_>,
     origin: Option<Origin>,
 ) -> Result<(), Stop>
-    requires state { HoldsState setting.now.board.now limit index key.now depth search.old }
+    requires state { HoldsState setting.now.board.now visit.now search.old }
     requires ready { IsReady setting.now.board.now scratch.old }
     ensures ready { OnOk result (IsReady setting.now.board.now scratch.new) }
-    ensures expanded { OnOk result (HasExpanded setting.now.board.now limit
-        (progress_of search.old) index key.now depth (progress_of search.new)) }
-    ensures cut { CutsOff setting.now.board.now limit search.old
-        (holding index (progress_of search.new)) result }
+    ensures expanded { OnOk result (HasExpanded setting.now.board.now visit.now
+        (progress_of search.old) (progress_of search.new)) }
+    ensures cut { CutsVisit setting.now.board.now visit.now search.old search.new result }
 {
+    let key = visit.key;
     scratch.make_lifts(alloc, setting, search.table.len())?;
     scratch.push_scratch.matched = false;
-    scratch.open(alloc, setting.board, index as u32, key, origin)?;
+    scratch.open(alloc, setting.board, visit.index as u32, key, origin)?;
     scratch.narrow(setting, search.aim.whole, key)?;
-    follow(
-        alloc,
-        setting,
-        limit,
-        search,
-        &mut scratch.push_scratch,
-        index,
-        key,
-        depth,
-        &scratch.pushes,
-    )
+    let push_scratch = &mut scratch.push_scratch;
+    follow(alloc, setting, search, push_scratch, visit, &scratch.pushes)
 }

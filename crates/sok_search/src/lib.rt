@@ -13,18 +13,17 @@
 //! | `aim` | what a search is asked for (private) |
 //! | `barring` | the reasons of a certificate, found again (private) |
 //! | `beginning` | a search that knows the start alone (private) |
-//! | `buckets` | indices that wait, in buckets by rank (private) |
+//! | `buckets`, `queue` | states that wait, by the pushes that they need at least (private) |
 //! | `certifying` | the certificate of a search (private) |
 //! | `expanding` | a state is expanded (private) |
 //! | `halted` | what a search shows that was cut off (private) |
 //! | `judging` | how a new state stands, and whether a state is solved (private) |
 //! | `note` | what a search notes of a state (private) |
 //! | `push_scratch` | how a new state stands that a push leads to (private) |
-//! | `queue` | states that wait, by the pushes that they need at least (private) |
 //! | `reaching` | a push is followed (private) |
 //! | `running` | one state is taken after another (private) |
 //! | `search` | what a search knows (private) |
-//! | `step` | a push, and where it leads (private) |
+//! | `step` | a state that is expanded, a push from it, and where the push leads (private) |
 //! | `stop` | why a search stops before its end (private) |
 //! | `tracing` | the pushes that lead to a solved state (private) |
 //! | `walkthrough` | the letters that make pushes one after another (private) |

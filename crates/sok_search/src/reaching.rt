@@ -1,24 +1,21 @@
 //! Following a push.
 
-ghost use Rattle.std.specs.Prelude.{◌≡◌, ◌<◌, ◌≤◌, ◌+◌, ◌^◌, IfOk, IfSome, IsTrue, OnOk, Some, length};
+ghost use Rattle.std.specs.Prelude.{◌≡◌, ◌<◌, ◌+◌, ◌^◌, IfOk, IfSome, IsTrue, OnOk, Some, length};
 ghost use Rattle.sok_alone.specs.Losses.{IsLostBy, KeepsLosses, KeepsPlaces, losses_of};
-ghost use Rattle.sok_board.specs.Area.{IsAccepted};
 ghost use Rattle.sok_board.specs.BoxSets.{put_in_order};
-ghost use Rattle.sok_state.specs.Keys.{IsKey};
 ghost use Rattle.sok_state.specs.Tables.{LacksNext};
-ghost use Rattle.sok_state.specs.Pushes.{IsLegal, IsOpened};
+ghost use Rattle.sok_state.specs.Pushes.{IsLegal};
 ghost use Rattle.sok_search.specs.Searches.{IsSpared};
-ghost use Rattle.sok_search.specs.Steps.{IsPushed, IsStep, Nears, holding, reopened};
-ghost use Rattle.sok_search.specs.PushScratches.{IsPushScratch};
-ghost use Rattle.sok_search.specs.Views.{progress_of, CutsOff, HoldsState};
+ghost use Rattle.sok_search.specs.Steps.{IsStep, Nears, reopened};
+ghost use Rattle.sok_search.specs.PushScratches.{IsLoaded};
+ghost use Rattle.sok_search.specs.Views.{progress_of, CutsVisit, HasPushed, HoldsState};
 
 use crate::note::{Note, Origin, Standing};
 use crate::push_scratch::{PushScratch, judge_after, raise_after};
 use crate::search::{Search, add, is_beaten, lower};
-use crate::step::Step;
+use crate::step::{Step, Visit};
 use crate::stop::Stop;
 use sok_alone::losses::Losses;
-use sok_board::area::Sq;
 use sok_distance::setting::Setting;
 use sok_lift::raise::is_lost;
 use sok_rules::fault::Memory;
@@ -60,8 +57,8 @@ fn approach(
 }
 
 /// Looks for a loss that makes the state after a push a deadlock, and returns its place. It does not look if
-/// the pushed box reaches no goal from there, which is a deadlock as well. If `pairs` is false, it looks at
-/// groups of three boxes alone.
+/// the pushed box reaches no goal from there, which is a deadlock as well. If `pairs` is false, it looks only
+/// at groups of three boxes, and not at pairs.
 fn ask(
     alloc: Global,
     setting: &Setting<'_>,
@@ -71,8 +68,6 @@ fn ask(
     step: Step,
     pairs: bool,
 ) -> Result<Option<u32>, Memory>
-    requires accepted { IsAccepted setting.now.board.now }
-    requires state { IsKey setting.now.board.now key.now }
     requires step { IsStep setting.now.board.now key.now step }
     requires losses { KeepsLosses setting.now.board.now losses.old }
     ensures losses { OnOk result (KeepsLosses setting.now.board.now losses.new) }
@@ -110,48 +105,31 @@ fn is_spared(upper: Option<u32>, standing: Standing, depth: u32) -> bool
 pub(crate) fn reach(
     alloc: Global,
     setting: &Setting<'_>,
-    limit: u32,
     search: &mut Search,
     push_scratch: &mut PushScratch,
-    index: usize,
-    key: &Key,
-    depth: u32,
+    visit: &Visit<'_>,
     push: Push,
 ) -> Result<(), Stop>
-    requires state { HoldsState setting.now.board.now limit index key.now depth search.old }
-    requires push_scratch { IsPushScratch setting.now.board.now key.now.boxes push_scratch.old }
-    requires opened { IsOpened setting.now.board.now key.now push_scratch.old.scene }
-    requires legal { IsLegal setting.now.board.now key.now push }
-    ensures push_scratch { OnOk result
-        (IsPushScratch setting.now.board.now key.now.boxes push_scratch.new) }
-    ensures opened { OnOk result (IsOpened setting.now.board.now key.now push_scratch.new.scene) }
-    ensures pushed { OnOk result (IsPushed setting.now.board.now limit
-        (holding index (progress_of search.old)) key.now depth push
-        (holding index (progress_of search.new))) }
-    ensures cut { CutsOff setting.now.board.now limit search.old
-        (holding index (progress_of search.new)) result }
+    requires state { HoldsState setting.now.board.now visit.now search.old }
+    requires loaded { IsLoaded setting.now.board.now visit.now.key.now push_scratch.old }
+    requires legal { IsLegal setting.now.board.now visit.now.key.now push }
+    ensures loaded { OnOk result
+        (IsLoaded setting.now.board.now visit.now.key.now push_scratch.new) }
+    ensures pushed { OnOk result
+        (HasPushed setting.now.board.now visit.now push search.old search.new) }
+    ensures cut { CutsVisit setting.now.board.now visit.now search.old search.new result }
 {
     let to = square_ahead(setting.board, push);
     if !search.aim.whole && setting.distances.stuck(to) {
         return Ok(());
     }
-    let least = push_scratch.scene.step(setting.board, key, push, to);
+    let least = push_scratch.scene.step(setting.board, visit.key, push, to);
     let step = Step { push, to, least };
-    if let Some(at) = search.table.get_next(index, push.from, to, least) {
-        approach(search, at, depth + 1, origin_of(index, push))?;
+    if let Some(at) = search.table.get_next(visit.index, push.from, to, least) {
+        approach(search, at, visit.depth + 1, origin_of(visit.index, push))?;
         return Ok(());
     }
-    arrive(
-        alloc,
-        setting,
-        limit,
-        search,
-        push_scratch,
-        index,
-        key,
-        depth,
-        step,
-    )
+    arrive(alloc, setting, search, push_scratch, visit, step)
 }
 
 /// Returns how a state is reached by a push from the state at an index.
@@ -170,104 +148,87 @@ fn origin_of(index: usize, push: Push) -> Option<Origin>
 fn arrive(
     alloc: Global,
     setting: &Setting<'_>,
-    limit: u32,
     search: &mut Search,
     push_scratch: &mut PushScratch,
-    index: usize,
-    key: &Key,
-    depth: u32,
+    visit: &Visit<'_>,
     step: Step,
 ) -> Result<(), Stop>
-    requires state { HoldsState setting.now.board.now limit index key.now depth search.old }
-    requires push_scratch { IsPushScratch setting.now.board.now key.now.boxes push_scratch.old }
-    requires opened { IsOpened setting.now.board.now key.now push_scratch.old.scene }
-    requires step { IsStep setting.now.board.now key.now step }
-    requires new { LacksNext search.old.table.entries index step.push.from step.to step.least }
-    ensures push_scratch { OnOk result
-        (IsPushScratch setting.now.board.now key.now.boxes push_scratch.new) }
-    ensures opened { OnOk result (IsOpened setting.now.board.now key.now push_scratch.new.scene) }
-    ensures pushed { OnOk result (IsPushed setting.now.board.now limit
-        (holding index (progress_of search.old)) key.now depth step.push
-        (holding index (progress_of search.new))) }
-    ensures cut { CutsOff setting.now.board.now limit search.old
-        (holding index (progress_of search.new)) result }
+    requires state { HoldsState setting.now.board.now visit.now search.old }
+    requires loaded { IsLoaded setting.now.board.now visit.now.key.now push_scratch.old }
+    requires step { IsStep setting.now.board.now visit.now.key.now step }
+    requires new { LacksNext search.old.table.entries visit.now.index step.push.from step.to
+        step.least }
+    ensures loaded { OnOk result
+        (IsLoaded setting.now.board.now visit.now.key.now push_scratch.new) }
+    ensures pushed { OnOk result
+        (HasPushed setting.now.board.now visit.now step.push search.old search.new) }
+    ensures cut { CutsVisit setting.now.board.now visit.now search.old search.new result }
 {
     let Step { push, to, .. } = step;
-    if !search.aim.whole && is_lost(&push_scratch.lifts, push.from, &key.boxes, push.from, to) {
+    let boxes = &visit.key.boxes;
+    if !search.aim.whole && is_lost(&push_scratch.lifts, push.from, boxes, push.from, to) {
         return Ok(());
     }
     let known = search.table.len();
     let pairs = search.aim.whole || !push_scratch.lifts.is_made();
     let losses = &mut search.losses;
-    let lost = ask(alloc, setting, losses, known, key, step, pairs)?;
+    let lost = ask(alloc, setting, losses, known, visit.key, step, pairs)?;
     if !search.aim.whole && lost.is_some() {
         return Ok(());
     }
-    enter(
-        alloc,
-        setting,
-        limit,
-        search,
-        push_scratch,
-        index,
-        key,
-        depth,
-        step,
-        lost,
-    )
+    enter(alloc, setting, search, push_scratch, visit, step, lost)
 }
 
 /// Judges a new state, and adds it unless it can be left out. `Cut` if the table is full.
 fn enter(
     alloc: Global,
     setting: &Setting<'_>,
-    limit: u32,
     search: &mut Search,
     push_scratch: &mut PushScratch,
-    index: usize,
-    key: &Key,
-    depth: u32,
+    visit: &Visit<'_>,
     step: Step,
     lost: Option<u32>,
 ) -> Result<(), Stop>
-    requires state { HoldsState setting.now.board.now limit index key.now depth search.old }
-    requires push_scratch { IsPushScratch setting.now.board.now key.now.boxes push_scratch.old }
-    requires opened { IsOpened setting.now.board.now key.now push_scratch.old.scene }
-    requires step { IsStep setting.now.board.now key.now step }
-    requires new { LacksNext search.old.table.entries index step.push.from step.to step.least }
+    requires state { HoldsState setting.now.board.now visit.now search.old }
+    requires loaded { IsLoaded setting.now.board.now visit.now.key.now push_scratch.old }
+    requires step { IsStep setting.now.board.now visit.now.key.now step }
+    requires new { LacksNext search.old.table.entries visit.now.index step.push.from step.to
+        step.least }
     requires lost { IfSome lost (IsLostBy setting.now.board.now step.push.from
-        (put_in_order step.push.from step.to key.now.boxes) (losses_of search.old.losses)) }
-    ensures push_scratch { OnOk result
-        (IsPushScratch setting.now.board.now key.now.boxes push_scratch.new) }
-    ensures opened { OnOk result (IsOpened setting.now.board.now key.now push_scratch.new.scene) }
-    ensures pushed { OnOk result (IsPushed setting.now.board.now limit
-        (holding index (progress_of search.old)) key.now depth step.push
-        (holding index (progress_of search.new))) }
-    ensures cut { CutsOff setting.now.board.now limit search.old
-        (holding index (progress_of search.new)) result }
+        (put_in_order step.push.from step.to visit.now.key.now.boxes)
+        (losses_of search.old.losses)) }
+    ensures loaded { OnOk result
+        (IsLoaded setting.now.board.now visit.now.key.now push_scratch.new) }
+    ensures pushed { OnOk result
+        (HasPushed setting.now.board.now visit.now step.push search.old search.new) }
+    ensures cut { CutsVisit setting.now.board.now visit.now search.old search.new result }
 {
     let Step { push, to, least } = step;
     let from = push.from;
-    let standing = judge_after(alloc, setting, push_scratch, &key.boxes, from, to, lost)?;
+    let boxes = &visit.key.boxes;
+    let standing = judge_after(alloc, setting, push_scratch, boxes, from, to, lost)?;
     let standing = raise_after(
         alloc,
         search.aim.whole,
         &push_scratch.lifts,
         &mut push_scratch.free,
-        &key.boxes,
+        boxes,
         from,
         to,
         standing,
     )?;
-    let deeper = depth + 1;
+    let deeper = visit.depth + 1;
     if !search.aim.whole && is_spared(search.aim.upper, standing, deeper) {
         return Ok(());
     }
-    if search.table.len() >= limit as usize {
+    let limit = visit.limit as usize;
+    if search.table.len() >= limit {
         return Err(Stop::Cut);
     }
-    let (at, _) = search.table.insert_next(index, from, to, least, deeper)?;
-    let origin = origin_of(index, push);
+    let (at, _) = search
+        .table
+        .insert_next(visit.index, from, to, least, deeper)?;
+    let origin = origin_of(visit.index, push);
     add(search, at, deeper, Note { origin, standing })?;
     Ok(())
 }

@@ -10,6 +10,7 @@ ghost use Rattle.sok_search.specs.declared.note.Standing.TheVariants.{Open};
 use crate::expanding::{Scratch, expand};
 use crate::note::{Note, Standing};
 use crate::search::{Search, is_beaten, wait};
+use crate::step::Visit;
 use crate::stop::Stop;
 use sok_closed::solved::is_solved;
 use sok_distance::setting::Setting;
@@ -52,17 +53,13 @@ fn visit(
         search.best = Some(depth);
         return Ok(());
     }
-    match expand(
-        alloc,
-        setting,
+    let visit = Visit {
         limit,
-        search,
-        scratch,
         index,
-        &key,
+        key: &key,
         depth,
-        note.origin,
-    ) {
+    };
+    match expand(alloc, setting, search, scratch, &visit, note.origin) {
         Ok(()) => {
             let standing = Standing::Expanded(bound);
             let origin = note.origin;

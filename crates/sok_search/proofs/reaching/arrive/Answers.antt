@@ -1,73 +1,70 @@
 use Rattle.std.proofs.Common.{◌∙◌, sym}
 use Rattle.std.proofs.lemmas.Result.{on_ok_weaker}
 use Rattle.sok_alone.specs.Losses.{losses_of}
-use Rattle.sok_search.specs.Searches.{IsSearch}
-use Rattle.sok_search.specs.Steps.{holding, knowing}
+use Rattle.sok_search.specs.Steps.{holding}
 use Rattle.sok_search.specs.Views.{HoldsState, progress_of}
-use Rattle.sok_search.proofs.Adding.{taken-key}
 use Rattle.sok_search.proofs.Asking.{lost-by_lift, lost-found}
-use Rattle.sok_search.proofs.Entering as step
+use Rattle.sok_search.proofs.Entering as held
 use Rattle.sok_search.proofs.Invariant.{keeps-knowing}
-use Rattle.sok_search.proofs.LeavingOut.{nowhere-no_fewer, pushed-left_out}
+use Rattle.sok_search.proofs.LeavingOut.{nowhere-no_fewer}
 use Rattle.sok_search.proofs.Pushing.{pushed-knowing}
 use Rattle.sok_search.proofs.reaching.arrive.Goals as goal
 use Rattle.sok_search.proofs.reaching.arrive.Goals.{In_ok-lost}
 
-pub ask-requires-clause-state : goal.ask-requires-clause-state
-ask-requires-clause-state c = taken-key c.args.setting.now.board.now c.args.limit c.args.index (progress_of c.args.search.now) c.args.key.now c.args.depth
-    c.requires.state.running.search c.requires.state.there c.requires.state.depth_is
-
 pub returns-then-is_lost-clause-pushed : goal.returns-then-is_lost-clause-pushed
 returns-then-is_lost-clause-pushed c =
     let b = c.args.setting.now.board.now in
-    let p = progress_of c.args.search.now in
-    let key = c.args.key.now in
+    let v = c.args.visit.now in
     let s = c.args.step in
-    let scene = c.args.push_scratch.now.scene in
-    let running = c.requires.state.running in
-    let can = step.can b c.args.limit c.args.index c.args.search.now key c.args.depth c.requires.state scene c.requires.opened s c.requires.step in
-    pushed-left_out b c.args.limit c.args.index p running.search key c.args.depth s.push (record {
+    let step = c.requires.step in
+    let scratch = c.args.push_scratch.now in
+    let loaded = c.requires.loaded in
+    let can = held.can b v c.args.search.now c.requires.state scratch.scene loaded.opened s.push step.legal in
+    held.left_out b v c.args.search.now c.requires.state s.push (record {
       part = c.if-not-search.true;
-      no_fewer = nowhere-no_fewer b p.frame.aim.upper key c.args.depth s.push
-          (lost-by_lift b running.accepted key s.push s.to scene can c.requires.step.ahead
-          c.args.push_scratch.now.lifts c.requires.push_scratch.are_lifts (c.is_lost.ensures.0 c.if-is_lost.true));
+      no_fewer = nowhere-no_fewer b c.args.search.now.aim.upper v.key.now v.depth s.push
+          (lost-by_lift b c.requires.state.running.accepted v.key.now s.push s.to scratch.scene can step.ahead scratch.lifts loaded.serves.are_lifts
+          (c.is_lost.ensures.0 c.if-is_lost.true));
     })
 
--- the search that knows what was found of boxes taken alone
-known-in : (c : In_ok-lost) → IsSearch c.args.setting.now.board.now c.args.limit (holding c.args.index (knowing c.ask.new.losses (progress_of c.args.search.now)))
-known-in c = keeps-knowing c.args.setting.now.board.now c.args.limit (holding c.args.index (progress_of c.args.search.now)) c.ask.new.losses c.requires.state.running.search
-    c.in_ok-lost.ensures.losses c.in_ok-lost.ensures.kept
+-- the search that knows what was found of boxes taken alone still visits the state
+held-in : (c : In_ok-lost) → HoldsState c.args.setting.now.board.now c.args.visit.now (record c.args.search.now { losses = c.ask.new.losses })
+held-in c =
+    let state = c.requires.state in
+    record {
+      running = record {
+        accepted = state.running.accepted;
+        search = keeps-knowing c.args.setting.now.board.now c.args.visit.now.limit (holding c.args.visit.now.index (progress_of c.args.search.now))
+            c.ask.new.losses state.running.search c.in_ok-lost.ensures.losses c.in_ok-lost.ensures.kept;
+      };
+      small = state.small;
+      there = state.there;
+      depth_is = state.depth_is;
+    }
 
 pub returns-then-is_some-clause-pushed : goal.returns-then-is_some-clause-pushed
 returns-then-is_some-clause-pushed c =
     let b = c.args.setting.now.board.now in
-    let p = progress_of c.args.search.now in
-    let q = knowing c.ask.new.losses p in
-    let key = c.args.key.now in
+    let v = c.args.visit.now in
+    let search = record c.args.search.now { losses = c.ask.new.losses } in
     let s = c.args.step in
+    let step = c.requires.step in
     let scene = c.args.push_scratch.now.scene in
-    let can = step.can b c.args.limit c.args.index c.args.search.now key c.args.depth c.requires.state scene c.requires.opened s c.requires.step in
-    pushed-knowing b c.args.limit (holding c.args.index p) c.ask.new.losses key c.args.depth s.push (holding c.args.index q)
-    (pushed-left_out b c.args.limit c.args.index q (known-in ((goal.at.returns-then-is_some-clause-pushed c).In_ok-lost)) key c.args.depth s.push (record {
+    let can = held.can b v c.args.search.now c.requires.state scene c.requires.loaded.opened s.push step.legal in
+    pushed-knowing b v.limit (holding v.index (progress_of c.args.search.now)) c.ask.new.losses v.key.now v.depth s.push (holding v.index (progress_of search))
+    (held.left_out b v search (held-in ((goal.at.returns-then-is_some-clause-pushed c).In_ok-lost)) s.push (record {
       part = c.if-not-search-2.true;
-      no_fewer = nowhere-no_fewer b p.frame.aim.upper key c.args.depth s.push
-          (lost-found b c.requires.state.running.accepted key s.push s.to scene can c.requires.step.ahead
+      no_fewer = nowhere-no_fewer b search.aim.upper v.key.now v.depth s.push
+          (lost-found b c.requires.state.running.accepted v.key.now s.push s.to scene can step.ahead
           (losses_of c.ask.new.losses) c.in_ok-lost.lost (sym c.is_some.ensures ∙ c.if-is_some.true) c.in_ok-lost.ensures.lost);
     }))
-
--- which holds the state still
-held-in : (c : In_ok-lost) → HoldsState c.args.setting.now.board.now c.args.limit c.args.index c.args.key.now c.args.depth
-    (record c.args.search.now { losses = c.ask.new.losses })
-held-in c = record {
-  running = record { accepted = c.requires.state.running.accepted; search = known-in c };
-  there = c.requires.state.there;
-  depth_is = c.requires.state.depth_is;
-}
 
 pub enter-requires-clause-state : goal.enter-requires-clause-state
 enter-requires-clause-state c = held-in ((goal.at.enter-requires-clause-state c).In_ok-lost)
 
 pub returns-clause-pushed : goal.returns-clause-pushed
-returns-clause-pushed c = on_ok_weaker c.enter.result
-    (pushed-knowing c.args.setting.now.board.now c.args.limit (holding c.args.index (progress_of c.args.search.now)) c.ask.new.losses c.args.key.now c.args.depth c.args.step.push
-    (holding c.args.index (progress_of c.enter.new.search))) c.enter.ensures.pushed
+returns-clause-pushed c =
+    let v = c.args.visit.now in
+    on_ok_weaker c.enter.result
+    (pushed-knowing c.args.setting.now.board.now v.limit (holding v.index (progress_of c.args.search.now)) c.ask.new.losses v.key.now v.depth c.args.step.push
+    (holding v.index (progress_of c.enter.new.search))) c.enter.ensures.pushed

@@ -2,127 +2,116 @@ use Rattle.std.proofs.Common.{◌≡◌, ◌≤◌, ◌+◌, ◌∙◌, Bool, Co
 use Rattle.std.specs.Map.{keys_of}
 use Rattle.std.proofs.lemmas.Option.{same_Some}
 use Rattle.sok_board.specs.BoxSets.{put_in_order}
-use Rattle.sok_board.proofs.Beside.{beside-within}
 use Rattle.sok_board.proofs.Lists.{Contains-at}
-use Rattle.sok_closed.proofs.Starting.{at-within}
 use Rattle.sok_state.specs.declared.key.Key.{Key}
-use Rattle.sok_state.specs.Pushes.{IsOpened, Reaches}
+use Rattle.sok_state.specs.Pushes.{Reaches}
 use Rattle.sok_state.specs.Tables.{Enters, Entries, GoesLast, Tabled}
+use Rattle.sok_state.proofs.Stepped.{ComesNext, next_of}
 use Rattle.sok_alone.specs.Losses.{losses_of}
 use Rattle.sok_search.specs.declared.search.Search.{Search}
+use Rattle.sok_search.specs.PushScratches.{IsLoaded}
 use Rattle.sok_search.specs.Steps.{IsBoundedAs, holding}
 use Rattle.sok_search.specs.Views.{progress_of}
-use Rattle.sok_search.proofs.Adding.{added-made, taken, taken-deep}
+use Rattle.sok_search.proofs.Adding.{added-made}
 use Rattle.sok_search.proofs.Asking.{raised-next}
-use Rattle.sok_search.proofs.Entering as step
+use Rattle.sok_search.proofs.Entering as held
 use Rattle.sok_search.proofs.Filling.{full-more}
-use Rattle.sok_search.proofs.LeavingOut.{pushed-left_out, spared-no_fewer}
+use Rattle.sok_search.proofs.LeavingOut.{spared-no_fewer}
 use Rattle.sok_search.proofs.Pushing.{pushed-added}
 use Rattle.sok_search.proofs.reaching.enter.Goals as goal
-use Rattle.sok_search.proofs.reaching.enter.Goals.{In_ok-at, In_ok-standing-2}
+use Rattle.sok_search.proofs.reaching.enter.Goals.{In_ok-at, In_ok-standing, In_ok-standing-2}
 
 pub overflow_add-deeper : goal.overflow_add-deeper
 overflow_add-deeper c =
-    let deep = taken-deep c.args.setting.now.board.now c.args.limit c.args.index
-    (progress_of c.args.search.now) c.args.key.now c.args.depth c.requires.state.running.search c.requires.state.there c.requires.state.depth_is in
-    omega (arith, deep, c.ranges.limit.fits)
+    let small = held.small_depth c.args.setting.now.board.now c.args.visit.now c.args.search.now c.requires.state in
+    omega (arith, small)
 
-pub judge_after-requires-clause-moved : goal.judge_after-requires-clause-moved
-judge_after-requires-clause-moved c =
-    step.moved c.args.setting.now.board.now c.args.limit c.args.index c.args.search.now c.args.key.now c.args.depth c.requires.state c.args.push_scratch.now.scene
-    c.requires.opened c.args.step c.requires.step
-
-pub raise_after-requires-clause-there : goal.raise_after-requires-clause-there
-raise_after-requires-clause-there c =
-    (step.moved c.args.setting.now.board.now c.args.limit c.args.index c.args.search.now c.args.key.now c.args.depth c.requires.state
-    c.args.push_scratch.now.scene c.requires.opened c.args.step c.requires.step).there
-
-pub raise_after-requires-clause-free : goal.raise_after-requires-clause-free
-raise_after-requires-clause-free c =
-    (step.moved c.args.setting.now.board.now c.args.limit c.args.index c.args.search.now c.args.key.now c.args.depth c.requires.state
-    c.args.push_scratch.now.scene c.requires.opened c.args.step c.requires.step).free
+-- the state that the step leads to
+comes_in : (c : In_ok-standing) → ComesNext c.args.setting.now.board.now c.args.visit.now.key.now c.args.step.push c.args.step.to c.args.step.least
+comes_in c =
+    let s = c.args.step in
+    let step = c.requires.step in
+    held.comes c.args.setting.now.board.now c.args.visit.now c.args.search.now c.requires.state c.args.push_scratch.now.scene c.requires.loaded.opened
+    s.push step.legal s.to s.least step.ahead step.next
 
 -- how it stands
 judged_in : (c : In_ok-standing-2) → IsBoundedAs c.args.setting.now.board.now c.args.search.now.aim.whole (losses_of c.args.search.now.losses) c.args.step.least
-    (put_in_order c.args.step.push.from c.args.step.to c.args.key.now.boxes) c.in_ok-standing-2.standing
+    (put_in_order c.args.step.push.from c.args.step.to c.args.visit.now.key.now.boxes) c.in_ok-standing-2.standing
 judged_in c =
     let b = c.args.setting.now.board.now in
-    let held = c.requires.state in
-    let key = c.args.key.now in
+    let v = c.args.visit.now in
     let s = c.args.step in
-    let after = put_in_order s.push.from s.to key.boxes in
+    let step = c.requires.step in
     let scene = c.args.push_scratch.now.scene in
-    let can = step.can b c.args.limit c.args.index c.args.search.now key c.args.depth held scene c.requires.opened s c.requires.step in
-    let comes = step.comes b c.args.limit c.args.index c.args.search.now key c.args.depth held scene c.requires.opened s c.requires.step in
-    let moved = step.moved b c.args.limit c.args.index c.args.search.now key c.args.depth held scene c.requires.opened s c.requires.step in
+    let can = held.can b v c.args.search.now c.requires.state scene c.requires.loaded.opened s.push step.legal in
+    let comes = held.comes b v c.args.search.now c.requires.state scene c.requires.loaded.opened s.push step.legal s.to s.least step.ahead step.next in
     let losses = losses_of c.args.search.now.losses in
-    raised-next b held.running.accepted key s.push s.to scene can c.requires.step.ahead s.least comes
+    raised-next b c.requires.state.running.accepted v.key.now s.push s.to scene can step.ahead s.least comes
     c.judge_after.new.push_scratch.lifts c.in_ok-standing.ensures.push_scratch.are_lifts c.args.search.now.aim.whole losses c.in_ok-standing.standing
     c.in_ok-standing-2.standing (c.in_ok-standing.ensures.judged losses s.push.from c.requires.lost)
-    (c.in_ok-standing-2.ensures after moved.moved moved.rising)
+    (c.in_ok-standing-2.ensures (put_in_order s.push.from s.to v.key.now.boxes) step.moved.moved step.moved.rising)
 
--- the scene is open behind it
-opened_in : (c : In_ok-standing-2) → IsOpened c.args.setting.now.board.now c.args.key.now c.judge_after.new.push_scratch.scene
-opened_in c = record {
-  laid = c.in_ok-standing.ensures.laid;
-  reached = subst (Reaches c.args.setting.now.board.now c.args.key.now) (sym c.judge_after.ensures.reached) c.requires.opened.reached;
+-- the state that is visited is loaded behind it
+loaded_in : (c : In_ok-standing-2) → IsLoaded c.args.setting.now.board.now c.args.visit.now.key.now
+    (record c.judge_after.new.push_scratch { free = c.raise_after.new.free })
+loaded_in c = record {
+  serves = c.in_ok-standing.ensures.push_scratch;
+  opened = record {
+    laid = c.in_ok-standing.ensures.laid;
+    reached = subst (Reaches c.args.setting.now.board.now c.args.visit.now.key.now) (sym c.judge_after.ensures.reached) c.requires.loaded.opened.reached;
+  };
 }
 
-pub returns-then-is_spared-clause-opened : goal.returns-then-is_spared-clause-opened
-returns-then-is_spared-clause-opened c = opened_in ((goal.at.returns-then-is_spared-clause-opened c).In_ok-standing-2)
+pub returns-then-is_spared-clause-loaded : goal.returns-then-is_spared-clause-loaded
+returns-then-is_spared-clause-loaded c = loaded_in ((goal.at.returns-then-is_spared-clause-loaded c).In_ok-standing-2)
 
 pub returns-then-is_spared-clause-pushed : goal.returns-then-is_spared-clause-pushed
 returns-then-is_spared-clause-pushed c =
     let b = c.args.setting.now.board.now in
-    let held = c.requires.state in
-    let p = progress_of c.args.search.now in
-    let key = c.args.key.now in
+    let v = c.args.visit.now in
     let s = c.args.step in
-    let comes = step.comes b c.args.limit c.args.index c.args.search.now key c.args.depth held c.args.push_scratch.now.scene c.requires.opened s c.requires.step in
-    let judged = judged_in ((goal.at.returns-then-is_spared-clause-pushed c).In_ok-standing-2) in
-    pushed-left_out b c.args.limit c.args.index p held.running.search key c.args.depth s.push (record {
+    let at = goal.at.returns-then-is_spared-clause-pushed c in
+    let comes = comes_in at.In_ok-standing in
+    held.left_out b v c.args.search.now c.requires.state s.push (record {
       part = c.if-not-search.true;
-      no_fewer = spared-no_fewer b held.running.accepted key (step.next key s) s.push comes.came.exact
-          comes.came.of_board c.args.search.now.aim.whole (losses_of c.args.search.now.losses) c.in_ok-standing-2.standing judged p.frame.aim.upper c.args.depth
-          (c.is_spared.ensures c.if-is_spared.true);
+      no_fewer = spared-no_fewer b c.requires.state.running.accepted v.key.now (next_of v.key.now s.push.from s.to s.least) s.push comes.came.exact
+          comes.came.of_board c.args.search.now.aim.whole (losses_of c.args.search.now.losses) c.in_ok-standing-2.standing (judged_in at.In_ok-standing-2)
+          c.args.search.now.aim.upper v.depth (c.is_spared.ensures c.if-is_spared.true);
     })
 
 pub returns-then-len-limit-clause-cut : goal.returns-then-len-limit-clause-cut
 returns-then-len-limit-clause-cut c = λ _.
-    let b = c.args.setting.now.board.now in
-    let held = c.requires.state in
-    let key = c.args.key.now in
+    let v = c.args.visit.now in
     let s = c.args.step in
+    let state = c.requires.state in
     let legal = c.requires.step.legal in
-    let comes = step.comes b c.args.limit c.args.index c.args.search.now key c.args.depth held c.args.push_scratch.now.scene c.requires.opened s c.requires.step in
-    let next = step.next key s in
+    let comes = comes_in ((goal.at.returns-then-len-limit-clause-cut c).In_ok-standing) in
+    let next = next_of v.key.now s.push.from s.to s.least in
     let long = c.if-len-limit.true in
     let count = c.len.ensures.count in
-    let full : c.args.limit ≤ length c.args.search.now.table.entries = omega (arith, long, count) in
+    let full : v.limit ≤ length c.args.search.now.table.entries = omega (arith, long, count) in
     record {
-      more = full-more b held.running.accepted c.args.limit (holding c.args.index (progress_of c.args.search.now)) c.args.index
-          key next s.push legal.after held.running.search full held.there legal.leads (comes.came.exact legal.after legal.leads)
-          (c.requires.new.absent key next held.there comes.is);
-      search = held.running.search;
+      more = full-more c.args.setting.now.board.now state.running.accepted v.limit (holding v.index (progress_of c.args.search.now)) v.index
+          v.key.now next s.push legal.after state.running.search full state.there legal.leads (comes.came.exact legal.after legal.leads)
+          (c.requires.new.absent v.key.now next state.there comes.is);
+      search = state.running.search;
       full = full;
       aim_is = refl;
     }
 
 pub insert_next-requires-clause-exists : goal.insert_next-requires-clause-exists
-insert_next-requires-clause-exists c = at-within c.args.search.now.table.entries c.args.key.now c.args.index c.requires.state.there
+insert_next-requires-clause-exists c = held.within c.args.setting.now.board.now c.args.visit.now c.args.search.now c.requires.state
 
 pub insert_next-requires-clause-to : goal.insert_next-requires-clause-to
 insert_next-requires-clause-to c =
-    let exists = beside-within c.args.setting.now.board.now c.args.step.push.dir c.args.step.push.from c.args.step.to c.requires.step.ahead in
+    let exists = c.requires.step.moved.within in
     let wide = c.requires.state.running.search.wide in
     omega (arith, exists, wide)
 
 pub insert_next-requires-clause-there : goal.insert_next-requires-clause-there
 insert_next-requires-clause-there c = λ key at.
-    let s = c.args.step in
-    let moved = step.moved c.args.setting.now.board.now c.args.limit c.args.index c.args.search.now c.args.key.now c.args.depth c.requires.state
-    c.args.push_scratch.now.scene c.requires.opened s c.requires.step in
-    subst (λ (k : Key). Contains k.boxes s.push.from) (same_Some c.args.key.now key (sym c.requires.state.there ∙ at)) moved.there
+    subst (λ (k : Key). Contains k.boxes c.args.step.push.from) (same_Some c.args.visit.now.key.now key (sym c.requires.state.there ∙ at))
+    c.requires.step.moved.there
 
 -- a key that was lacking goes last
 goes_last : (old new : Entries) (key : Key) (depth at : ℕ) (is_new : Bool) → Enters old key depth at is_new new → (Contains (keys_of old) key → ⊥)
@@ -130,32 +119,30 @@ goes_last : (old new : Entries) (key : Key) (depth at : ℕ) (is_new : Bool) →
 goes_last old new key depth at true enters absent = enters
 goes_last old new key depth at false enters absent = absurd (absent (Contains-at (keys_of old) key at enters.there))
 
-last_in : (c : In_ok-at) → GoesLast c.args.search.now.table.entries (step.next c.args.key.now c.args.step) (c.args.depth + 1) c.in_ok-at.at
-    c.insert_next.new.self.entries
-last_in c =
-    let held = c.requires.state in
-    let key = c.args.key.now in
+last_in : (c : In_ok-at) → ComesNext c.args.setting.now.board.now c.args.visit.now.key.now c.args.step.push c.args.step.to c.args.step.least
+    → GoesLast c.args.search.now.table.entries (next_of c.args.visit.now.key.now c.args.step.push.from c.args.step.to c.args.step.least)
+    (c.args.visit.now.depth + 1) c.in_ok-at.at c.insert_next.new.self.entries
+last_in c comes =
+    let v = c.args.visit.now in
     let s = c.args.step in
-    let comes = step.comes c.args.setting.now.board.now c.args.limit c.args.index c.args.search.now key c.args.depth held c.args.push_scratch.now.scene
-    c.requires.opened s c.requires.step in
-    goes_last c.args.search.now.table.entries c.insert_next.new.self.entries (step.next key s) (c.args.depth + 1) c.in_ok-at.at c.in_ok-at.field-0-1
-    (c.in_ok-at.ensures.inserted.enters key (step.next key s) held.there comes.is) (c.requires.new.absent key (step.next key s) held.there comes.is)
+    let next = next_of v.key.now s.push.from s.to s.least in
+    goes_last c.args.search.now.table.entries c.insert_next.new.self.entries next (v.depth + 1) c.in_ok-at.at c.in_ok-at.field-0-1
+    (c.in_ok-at.ensures.inserted.enters v.key.now next c.requires.state.there comes.is) (c.requires.new.absent v.key.now next c.requires.state.there comes.is)
 
 pub origin_of-origin-requires : goal.origin_of-origin-requires
-origin_of-origin-requires c =
-    let within = at-within c.args.search.now.table.entries c.args.key.now c.args.index c.requires.state.there in
-    let few = c.requires.state.running.search.few in
-    omega (arith, within, few, c.ranges.limit.fits)
+origin_of-origin-requires c = held.small_index c.args.setting.now.board.now c.args.visit.now c.args.search.now c.requires.state
 
 pub add-requires : goal.add-requires
 add-requires c =
-    let at = (last_in ((goal.at.add-requires c).In_ok-at)).last in
+    let at = goal.at.add-requires c in
+    let last = (last_in at.In_ok-at (comes_in at.In_ok-standing)).last in
     let room = c.if-len-limit.false in
     let count = c.len.ensures.count in
-    omega (arith, at, room, count, c.ranges.limit.fits)
+    let small = c.requires.state.small in
+    omega (arith, last, room, count, small)
 
-pub returns-clause-opened : goal.returns-clause-opened
-returns-clause-opened c = opened_in ((goal.at.returns-clause-opened c).In_ok-standing-2)
+pub returns-clause-loaded : goal.returns-clause-loaded
+returns-clause-loaded c = loaded_in ((goal.at.returns-clause-loaded c).In_ok-standing-2)
 
 -- the frame of a search with another table
 same_frame : (search : Search) (table : Tabled) → table.room ≡ search.table.room
@@ -164,22 +151,17 @@ same_frame search table same = λ i. record { room = same i; aim = search.aim; l
 
 pub returns-clause-pushed : goal.returns-clause-pushed
 returns-clause-pushed c =
-    let b = c.args.setting.now.board.now in
-    let held = c.requires.state in
-    let p = progress_of c.args.search.now in
+    let v = c.args.visit.now in
     let q = progress_of c.add.new.search in
-    let at = c.in_ok-at.at in
     let table = c.insert_next.new.self in
-    let key = c.args.key.now in
     let s = c.args.step in
-    let one = taken b c.args.limit c.args.index p key c.args.depth held.running.search held.there held.depth_is in
-    let comes = step.comes b c.args.limit c.args.index c.args.search.now key c.args.depth held c.args.push_scratch.now.scene c.requires.opened s c.requires.step in
-    let next = step.next key s in
-    let last = last_in ((goal.at.returns-clause-pushed c).In_ok-at) in
+    let at = goal.at.returns-clause-pushed c in
+    let comes = comes_in at.In_ok-standing in
+    let next = next_of v.key.now s.push.from s.to s.least in
+    let last = last_in at.In_ok-at comes in
     let room = c.if-len-limit.false in
     let count = c.len.ensures.count in
-    pushed-added b c.args.limit c.args.index p held.running.search key c.args.depth held.there held.depth_is
-    one.note one.note_is s.push c.requires.step.legal next comes.came.exact comes.came.of_board comes.came.as_many last.absent
-    (omega (arith, room, count)) _ c.origin_of-origin.ensures (judged_in ((goal.at.returns-clause-pushed c).In_ok-standing-2)) q
-    (added-made p (record { room = table.room; aim = c.args.search.now.aim; losses = c.args.search.now.losses }) table.entries q next (c.args.depth + 1) at _
-    (same_frame c.args.search.now table c.in_ok-at.ensures.room) last c.in_ok-add.ensures)
+    pushed-added c.args.setting.now.board.now v c.args.search.now c.requires.state s.push c.requires.step.legal next comes.came last.absent
+    (omega (arith, room, count)) _ c.origin_of-origin.ensures (judged_in at.In_ok-standing-2) q
+    (added-made (progress_of c.args.search.now) (record { room = table.room; aim = c.args.search.now.aim; losses = c.args.search.now.losses }) table.entries q
+    next (v.depth + 1) c.in_ok-at.at _ (same_frame c.args.search.now table c.in_ok-at.ensures.room) last c.in_ok-add.ensures)

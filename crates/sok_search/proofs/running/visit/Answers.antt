@@ -33,7 +33,7 @@ mark-requires c = held-noted c.args.setting.now.board.now c.args.limit c.args.in
 pub returns-in-Ok-clause-turned : goal.returns-in-Ok-clause-turned
 returns-in-Ok-clause-turned c =
     let key = c.in_ok-key.key in
-    go-on c.args.setting.now.board.now c.args.limit c.args.index c.args.bound c.depth-depth.result key (progress_of c.args.search.now) (progress_of c.expand.new.search)
+    go-on c.args.setting.now.board.now _ c.args.bound (progress_of c.args.search.now) (progress_of c.expand.new.search)
     c.args.note (assumption (c.in_ok-key.ensures, c.depth-depth.ensures, c.requires.noted)) c.requires.is_open
     (λ solved. true≢false (sym ((c.if-is_solved.ensures key.least).1 solved))) c.in-Ok.ensures.expanded (progress_of c.mark.new.search) c.mark.ensures
 
