@@ -1,4 +1,4 @@
-//! Single squares of bit rows.
+//! Bit rows, read and written: a square at a time, or all at once.
 
 ghost use Rattle.std.specs.Prelude.{◌≡◌, ◌<◌, ◌↔◌, ◌≤◌, ◌⊎◌, IfSome, MatchOption, true, false, length};
 ghost use Rattle.sok_rules.specs.declared.cell.Spot.{Spot};

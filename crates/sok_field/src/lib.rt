@@ -2,7 +2,7 @@
 //!
 //! | Module | What it holds |
 //! |---|---|
-//! | `bits` | single squares of bit rows (private) |
+//! | `bits` | bit rows, read and written: a square at a time, or all at once (private) |
 //! | `crossing` | the flood over both halves of a set (private) |
 //! | `drawing` | squares of a board in bit rows |
 //! | `field` | sets of squares of a level, in bit rows |
