@@ -1,5 +1,5 @@
 -- What a finished search shows of the position from which it starts.
-use Rattle.std.proofs.Common.{ℕ, ◌≡◌, ◌≤◌, inl, inr, refl, ap, sym, subst, List, [], Option, None, Some, Ok, Err, Result, IfNone, IfOk, All, length}
+use Rattle.std.proofs.Common.{ℕ, ◌≡◌, ◌≤◌, inl, inr, refl, ap, sym, subst, List, [], Option, None, Some, Ok, Err, Result, IfNone, IfOk, All, arith, length}
 use Rattle.std.proofs.lemmas.List.{length-map}
 use Rattle.std.proofs.lemmas.List.Elements.{All-weaker}
 use Rattle.sok_rules.specs.declared.fault.Memory.{Memory}
@@ -13,12 +13,12 @@ use Rattle.sok_board.specs.Limits.{box_limit}
 use Rattle.sok_region.specs.Regions.{IsPlaced}
 use Rattle.sok_state.specs.declared.key.Key.{Key}
 use Rattle.sok_state.specs.Keys.{IsKeyOf, key_position}
-use Rattle.sok_state.specs.Tables.{Tabled}
+use Rattle.sok_state.specs.Tables.{Entries, Tabled}
 use Rattle.sok_state.proofs.Placed.{IsStanding-placed}
 use Rattle.sok_closed.specs.Lookup.{AreFollowed}
 use Rattle.sok_closed.specs.Rolls.{IsClosed, IsPosition}
 use Rattle.sok_closed.proofs.Fine.{IsLooking-fine, missed-closed}
-use Rattle.sok_closed.proofs.Starting.{one-starts}
+use Rattle.sok_closed.proofs.Starting.{at-within, one-starts}
 use Rattle.sok_entry.specs.Text.{FitsInner}
 use Rattle.sok_entry.specs.declared.entry.Inner.{Inner}
 use Rattle.sok_bar.specs.Patterns.{AreClosedAlone, IsBarredAlone, inner_node, is_expanded}
@@ -27,28 +27,39 @@ use Rattle.sok_alone.specs.declared.meeting.Met.{Met}
 use Rattle.sok_alone.specs.declared.meeting.Met.TheVariants.{On, Ended}
 use Rattle.sok_alone.specs.Known.{IsCome, roll_of}
 use Rattle.sok_alone.specs.Meeting.{AreClosedWithin, IsFinished, TellsAlone, TellsRun}
-use Rattle.sok_alone.specs.GivenUp.{IsGivenUp}
+use Rattle.sok_alone.specs.GivenUp.{AreGivenUp, IsGivenUp}
 use Rattle.sok_alone.proofs.Knowing.{zero-at}
 
--- what is given up from a position is given up from where a walk leads to it
-more-walked : (rows : Rows) (x y : Position) (limit : ℕ) → Same rows x y → MoreStatesFrom rows y limit → MoreStatesFrom rows x limit
-more-walked rows x y limit walk more = record {
+-- what is given up from a position is given up from where letters lead to it
+more-reached : (rows : Rows) (x y : Position) (limit : ℕ) → ReachedFrom rows x y → MoreStatesFrom rows y limit → MoreStatesFrom rows x limit
+more-reached rows x y limit on more = record {
   positions = more.positions;
   many = more.many;
-  reached = All-weaker (ReachedFrom rows y) (ReachedFrom rows x) (λ z. reached-on rows x y z (walk.0, walk.1)) more.positions more.reached;
+  reached = All-weaker (ReachedFrom rows y) (ReachedFrom rows x) (λ z. reached-on rows x y z on) more.positions more.reached;
   apart = more.apart;
 }
 
-pub given-up-walked : (rows : Rows) (x y : Position) (limit : ℕ) → Same rows x y → IsGivenUp rows y limit → IsGivenUp rows x limit
-given-up-walked rows x y limit walk (inl (w, solves)) = inl (reached-solves rows x y (walk.0, walk.1) w solves)
-given-up-walked rows x y limit walk (inr more) = inr (more-walked rows x y limit walk more)
+pub given-up-reached : (rows : Rows) (x y : Position) (limit : ℕ) → ReachedFrom rows x y → IsGivenUp rows y limit → IsGivenUp rows x limit
+given-up-reached rows x y limit on (inl (w, solves)) = inl (reached-solves rows x y on w solves)
+given-up-reached rows x y limit on (inr more) = inr (more-reached rows x y limit on more)
 
--- what ends a search that stops at no state
-pub none-ended : (r : Result (Option (List Inner)) Memory) (P : Type 0) {Q : Type 0} (lives : Tabled) → lives.entries ≡ [] → (Q → P)
-    → IfOk r (λ found. IfNone found (lives.entries ≡ [] → Q)) → IfOk r (λ found. IfNone found P)
-none-ended (Ok None) P lives none on told = on (told none)
-none-ended (Ok (Some inner)) P lives none on told = told
-none-ended (Err fault) P lives none on told = told
+pub given-up-walked : (rows : Rows) (x y : Position) (limit : ℕ) → Same rows x y → IsGivenUp rows y limit → IsGivenUp rows x limit
+given-up-walked rows x y limit walk = given-up-reached rows x y limit (walk.0, walk.1)
+
+-- a search that stops at no state
+pub none-live : (b : BoardView) (lives : Tabled) (limit : ℕ) → lives.entries ≡ [] → AreGivenUp b lives limit
+none-live b lives limit none = record {
+  each = λ key live.
+      let within = at-within lives.entries key live.index live.there in
+      let long = ap (λ (entries : Entries). length entries) none in
+      absurd (omega (arith, within, long));
+}
+
+-- what no result shows
+pub none-ended : {X : Type 0} (r : Result (Option X) Memory) (P Q : Type 0) → (Q → P) → IfOk r (λ found. IfNone found Q) → IfOk r (λ found. IfNone found P)
+none-ended (Ok None) P Q on told = on told
+none-ended (Ok (Some found)) P Q on told = told
+none-ended (Err fault) P Q on told = told
 
 -- a list that is closed from a state is so from each position of it
 pub closed-walked : (b : BoardView) (player : ℕ) (boxes : List ℕ) (key : Key) (limit : ℕ) → key.boxes ≡ boxes → IsKeyOf b (position_of b player boxes) key
@@ -107,4 +118,4 @@ tells-alone b accepted lives player boxes key limit known placed boxes_are few k
   fit = All-weaker (IsCome b key) FitsInner (λ one come. come.fits) known.inner.items finished.known.come;
 }
 tells-alone b accepted lives player boxes key limit known placed boxes_are few key_is Ended ended =
-    λ none. given-up-walked b.rows (position_of b player boxes) (key_position b key) limit key_is.same (ended none)
+    λ lives_are. given-up-walked b.rows (position_of b player boxes) (key_position b key) limit key_is.same (ended lives_are)

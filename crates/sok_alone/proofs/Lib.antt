@@ -8,3 +8,5 @@ pub mod Growing
 pub mod Knowing
 pub mod Losing
 pub mod Members
+pub mod Numbering
+pub mod Pairs

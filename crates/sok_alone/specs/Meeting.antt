@@ -31,7 +31,7 @@ pub record IsMet (b : BoardView) (start : Key) (limit : ℕ) (old : Known) (key 
 
 abbrev pub TellsMet : BoardView → Tabled → Key → ℕ → Known → Key → Known → Met → Type 0
 TellsMet b lives start limit old key new On = IsMet b start limit old key new
-TellsMet b lives start limit old key new Ended = HasEnded lives b.rows (key_position b start) limit
+TellsMet b lives start limit old key new Ended = HasEnded b lives (key_position b start) limit
 
 -- the states that these pushes lead to are known afterwards
 pub record HasFollowed (b : BoardView) (start : Key) (limit : ℕ) (old : Known) (key : Key) (pushes : List Push) (new : Known) : Type 0 where
@@ -41,7 +41,7 @@ pub record HasFollowed (b : BoardView) (start : Key) (limit : ℕ) (old : Known)
 
 abbrev pub TellsFollowed : BoardView → Tabled → Key → ℕ → Known → Key → List Push → Known → Met → Type 0
 TellsFollowed b lives start limit old key pushes new On = HasFollowed b start limit old key pushes new
-TellsFollowed b lives start limit old key pushes new Ended = HasEnded lives b.rows (key_position b start) limit
+TellsFollowed b lives start limit old key pushes new Ended = HasEnded b lives (key_position b start) limit
 
 -- the invariant holds, and the pushes from the expanded states before a place lead to known states
 pub record HasRun (b : BoardView) (start : Key) (limit : ℕ) (old : Known) (place : ℕ) (new : Known) : Type 0 where
@@ -51,12 +51,12 @@ pub record HasRun (b : BoardView) (start : Key) (limit : ℕ) (old : Known) (pla
 
 abbrev pub TellsExpanded : BoardView → Tabled → Key → ℕ → Known → ℕ → Known → Met → Type 0
 TellsExpanded b lives start limit old index new On = HasRun b start limit old (index + 1) new
-TellsExpanded b lives start limit old index new Ended = HasEnded lives b.rows (key_position b start) limit
+TellsExpanded b lives start limit old index new Ended = HasEnded b lives (key_position b start) limit
 
 -- the same of all known states
 abbrev pub TellsAll : BoardView → Tabled → Key → ℕ → Known → Known → Met → Type 0
 TellsAll b lives start limit old new On = HasRun b start limit old (length new.inner.items) new
-TellsAll b lives start limit old new Ended = HasEnded lives b.rows (key_position b start) limit
+TellsAll b lives start limit old new Ended = HasEnded b lives (key_position b start) limit
 
 -- the end of a search: all pushes from expanded states lead to known states, and the first state is among them
 pub record IsFinished (b : BoardView) (start : Key) (limit : ℕ) (first : Key) (new : Known) : Type 0 where
@@ -67,7 +67,7 @@ pub record IsFinished (b : BoardView) (start : Key) (limit : ℕ) (first : Key) 
 
 abbrev pub TellsRun : BoardView → Tabled → Key → ℕ → Key → Known → Met → Type 0
 TellsRun b lives start limit first new On = IsFinished b start limit first new
-TellsRun b lives start limit first new Ended = HasEnded lives b.rows (key_position b start) limit
+TellsRun b lives start limit first new Ended = HasEnded b lives (key_position b start) limit
 
 -- at most `limit` positions of some boxes alone, which are closed under pushes and have lines in a certificate
 pub record AreClosedWithin (b : BoardView) (player : ℕ) (boxes : List ℕ) (limit : ℕ) (inner : List Inner) : Type 0 where
@@ -78,4 +78,4 @@ pub record AreClosedWithin (b : BoardView) (player : ℕ) (boxes : List ℕ) (li
 -- what a search from a position returns: the known positions are such a list, or it has ended without one
 abbrev pub TellsAlone : BoardView → Tabled → ℕ → List ℕ → ℕ → List Inner → Met → Type 0
 TellsAlone b lives player boxes limit inner On = AreClosedWithin b player boxes limit inner
-TellsAlone b lives player boxes limit inner Ended = HasEnded lives b.rows (position_of b player boxes) limit
+TellsAlone b lives player boxes limit inner Ended = HasEnded b lives (position_of b player boxes) limit

@@ -1,10 +1,11 @@
 //! Which boxes of a position are checked for a loss, and when.
 
-ghost use Rattle.std.specs.Prelude.{◌<◌, All, Contains, IfOk, IsTrue, OnOk, length};
+ghost use Rattle.std.specs.Prelude.{◌<◌, All, Contains, IfNone, IfOk, IsTrue, OnOk, length};
 ghost use Rattle.sok_board.specs.BoxSets.{put_in_order};
 ghost use Rattle.sok_region.specs.Regions.{IsPlaced};
 ghost use Rattle.sok_alone.specs.Asking.{MayAsk, TellsAsked};
-ghost use Rattle.sok_alone.specs.Losses.{ArePushed, IsLostBy, KeepsLosses, TellsLoss, losses_of};
+ghost use Rattle.sok_alone.specs.Losses.{ArePairsGivenUp, ArePushed, HasRoom, IsLostBy, KeepsLosses};
+ghost use Rattle.sok_alone.specs.Losses.{TellsLoss, losses_of};
 
 use crate::choosing::chosen;
 use crate::hints::{Hint, hint_of};
@@ -225,7 +226,8 @@ impl Losses {
     }
 
     /// Returns the index of a loss of two of the boxes: alone on the board, they can't be solved
-    /// from where the player stands. `None` does not mean that there is no loss.
+    /// from where the player stands. Returns None if each two of them have a solution or reach more
+    /// than 200 states, or if no more losses can be kept.
     pub fn loss_among(
         &mut self,
         alloc: Global,
@@ -235,14 +237,18 @@ impl Losses {
     ) -> Result<Option<u32>, Memory>
         requires placed { IsPlaced setting.now.board.now boxes.now player }
         requires losses { KeepsLosses setting.now.board.now self.old }
-        ensures { IfOk result (TellsLoss setting.now.board.now player boxes.now self.old self.new) }
+        ensures tells { IfOk result
+            (TellsLoss setting.now.board.now player boxes.now self.old self.new) }
+        ensures none { IfOk result (λ found. IfNone found (HasRoom self.new
+            → ArePairsGivenUp setting.now.board.now player boxes.now)) }
     {
-        for one in boxes.list() {
-            for other in boxes.list() {
+        let all = boxes.list();
+        for one in all {
+            for other in all {
                 if *other <= *one {
                     continue;
                 }
-                let pair = chosen(alloc, boxes, &[*one, *other])?;
+                let pair = BoxSet::of(alloc, &[*one, *other])?;
                 let found = self.loss_of(alloc, setting, pair, player)?;
                 if found.is_some() {
                     return Ok(found);

@@ -49,7 +49,7 @@ pub fn close_alone(
 }
 
 /// Like `close_alone`, but from a state. Also returns None if it reaches a state that is in `lives`
-/// at depth 0.
+/// at depth 0. If those states are given up, so is this one.
 pub(crate) fn close_unless(
     alloc: Global,
     setting: &Setting<'_>,
@@ -65,7 +65,7 @@ pub(crate) fn close_unless(
     ensures closed { IfOk result (λ found. IfSome found
         (AreClosedWithin setting.now.board.now first.now.least first.now.boxes limit)) }
     ensures none { IfOk result (λ found. IfNone found
-        (HasEnded lives.now setting.now.board.now.rows
+        (HasEnded setting.now.board.now lives.now
         (key_position setting.now.board.now first.now) limit)) }
 {
     let mut known = Known::new(alloc, setting.board.squares());

@@ -1,13 +1,14 @@
 //! Losses: some boxes that can't be solved alone on the board. They are kept for a whole search.
 
-ghost use Rattle.std.specs.Prelude.{ℕ, ◌≡◌, ◌≤◌, All, IfOk, IfSome, OnOk, Some, length, slice_get};
+ghost use Rattle.std.specs.Prelude.{ℕ, ◌≡◌, ◌≤◌, All, IfNone, IfOk, IfSome, OnOk, Some, length, slice_get};
 ghost use Rattle.sok_bar.specs.Patterns.{IsPattern};
-ghost use Rattle.sok_board.specs.Area.{BoardView};
+ghost use Rattle.sok_board.specs.Area.{BoardView, position_of};
 ghost use Rattle.sok_entry.specs.Text.{FitsInner};
 ghost use Rattle.sok_region.specs.Regions.{IsPlaced};
-ghost use Rattle.sok_state.specs.Keys.{IsKey};
-ghost use Rattle.sok_alone.specs.Losses.{AddsLosses, HasKeyAt, IsLostBy, KeepsLosses, loss_limit};
-ghost use Rattle.sok_alone.specs.Losses.{TellsLoss, losses_of};
+ghost use Rattle.sok_state.specs.Keys.{IsKey, key_position};
+ghost use Rattle.sok_alone.specs.GivenUp.{IsGivenUp};
+ghost use Rattle.sok_alone.specs.Losses.{AddsLosses, HasKeyAt, HasRoom, IsLostBy, IsNumbered};
+ghost use Rattle.sok_alone.specs.Losses.{KeepsLosses, TellsLoss, loss_limit, losses_of};
 
 use crate::closing::close_unless;
 use crate::finding::members_of;
@@ -55,7 +56,7 @@ pub struct Loss {
 pub struct Losses {
     /// Pushes after which no loss is known, or which one.
     pub(crate) hints: Hints,
-    /// The states that were checked. The depth of a state is 0 if no loss is known, otherwise one
+    /// The states that were checked. The depth of a state is 0 if it has no loss, otherwise one
     /// more than the index of its loss.
     asked: Table,
     losses: Vec<Loss>,
@@ -119,7 +120,8 @@ impl Losses {
         self.asked.len().saturating_sub(searches) <= known
     }
 
-    /// Returns the index of a loss of these boxes alone, from where the player stands.
+    /// Returns the index of a loss of these boxes alone, from where the player stands. Returns None
+    /// if they have a solution or reach more than 200 states, or if no more losses can be kept.
     pub(crate) fn loss_of(
         &mut self,
         alloc: Global,
@@ -129,14 +131,18 @@ impl Losses {
     ) -> Result<Option<u32>, Memory>
         requires placed { IsPlaced setting.now.board.now boxes player }
         requires losses { KeepsLosses setting.now.board.now self.old }
-        ensures { IfOk result (TellsLoss setting.now.board.now player boxes self.old self.new) }
+        ensures tells { IfOk result
+            (TellsLoss setting.now.board.now player boxes self.old self.new) }
+        ensures none { IfOk result (λ found. IfNone found (HasRoom self.new
+            → IsGivenUp setting.now.board.now.rows
+            (position_of setting.now.board.now player boxes) loss_limit)) }
     {
         let key = self.workspace.normalizer.key(setting.board, boxes, player);
         self.recall(alloc, setting, &key)
     }
 
     /// Returns the index of the loss of a state of boxes alone. If the state was not checked yet,
-    /// it is searched, and the result is kept.
+    /// it is searched, and the result is kept. Once no more losses can be kept, nothing is searched.
     fn recall(
         &mut self,
         alloc: Global,
@@ -148,27 +154,34 @@ impl Losses {
         ensures more { OnOk result (AddsLosses setting.now.board.now self.old self.new) }
         ensures there { IfOk result (λ found. IfSome found
             (λ place. HasKeyAt (losses_of self.new) place key.now)) }
+        ensures none { IfOk result (λ found. IfNone found (HasRoom self.new
+            → IsGivenUp setting.now.board.now.rows
+            (key_position setting.now.board.now key.now) loss_limit)) }
     {
         if let Some(index) = self.asked.get(key) {
-            let number = self.asked.depth(index);
-            return Ok(place_of(&self.losses, number, key));
+            return Ok(self.asked.depth(index).checked_sub(1));
+        }
+        if self.losses.len() >= LOSSES {
+            return Ok(None);
         }
         let number = self.find(alloc, setting, key)?;
         let (_index, _is_new) = self.asked.insert(key, number)?;
-        Ok(place_of(&self.losses, number, key))
+        Ok(number.checked_sub(1))
     }
 
     /// Searches a state of boxes alone, unless they are soon solved. The search stops at a state
-    /// that was checked and of which no loss is known. If a loss is found, it is appended, and its
-    /// number from 1 is returned; otherwise 0.
+    /// that was checked and has no loss. If a loss is found, it is appended, and its number from 1
+    /// is returned; otherwise 0.
     fn find(&mut self, alloc: Global, setting: &Setting<'_>, key: &Key) -> Result<u32, Memory>
         requires state { IsKey setting.now.board.now key.now }
         requires losses { KeepsLosses setting.now.board.now self.old }
+        requires room { HasRoom self.old }
         ensures more { OnOk result (AddsLosses setting.now.board.now self.old self.new) }
         ensures asked { self.new.asked ≡ self.old.asked }
+        ensures number { IfOk result
+            (IsNumbered setting.now.board.now (losses_of self.new) key.now) }
     {
-        let workspace = &mut self.workspace;
-        if self.losses.len() >= LOSSES || are_soon_solved(alloc, setting, workspace, key)? {
+        if are_soon_solved(alloc, setting, &mut self.workspace, key)? {
             return Ok(0);
         }
         let found = close_unless(
@@ -187,13 +200,4 @@ impl Losses {
         self.losses.push(Loss { key, region, inner })?;
         Ok(self.losses.len() as u32)
     }
-}
-
-/// Returns the index of the loss with a number, if it is one of this state.
-fn place_of(losses: &[Loss], number: u32, key: &Key) -> Option<u32>
-    ensures { IfSome result (λ place. HasKeyAt losses.now place key.now) }
-{
-    let place = number.checked_sub(1)?;
-    let loss = losses.get(place as usize)?;
-    if loss.key == *key { Some(place) } else { None }
 }

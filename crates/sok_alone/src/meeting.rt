@@ -1,6 +1,7 @@
 //! Adds a state to those that are known.
 
-ghost use Rattle.std.specs.Prelude.{◌≡◌, ◌<◌, [], All, IfOk, IsTrue};
+ghost use Rattle.std.specs.Prelude.{◌<◌, All, IfOk, IsTrue};
+ghost use Rattle.sok_alone.specs.GivenUp.{IsLive};
 ghost use Rattle.sok_alone.specs.Known.{IsAsked, IsKnown, IsReached};
 ghost use Rattle.sok_state.specs.declared.key.Key.{Key};
 ghost use Rattle.sok_alone.specs.Meeting.{TellsMet};
@@ -25,7 +26,7 @@ pub(crate) enum Met {
 /// Returns whether a state is in a table at depth 0.
 fn is_live(lives: &Table, key: &Key) -> bool
     requires { All (λ square. square < lives.now.room) key.now.boxes }
-    ensures { IsTrue result → lives.now.entries ≡ [] → ⊥ }
+    ensures { IsTrue result → IsLive lives.now key.now }
 {
     match lives.get(key) {
         Some(index) => lives.depth(index) == 0,

@@ -1,8 +1,10 @@
-//! Whether some boxes alone are soon solved. This is a guess: a wrong one only costs time, so no
-//! clause says what is returned.
+//! Whether some boxes alone are soon solved. This is a guess: one that misses a solution only costs
+//! time.
 
-ghost use Rattle.std.specs.Prelude.{◌<◌, All, IfSome, OnOk, length};
-ghost use Rattle.sok_state.specs.Keys.{IsKey};
+ghost use Rattle.std.specs.Prelude.{◌<◌, All, IfOk, IfSome, IsTrue, List, OnOk, length};
+ghost use Rattle.sok_rules.specs.Play.{SolvesFrom};
+ghost use Rattle.sok_rules.specs.declared.cell.Dir.{Dir};
+ghost use Rattle.sok_state.specs.Keys.{IsKey, key_position};
 ghost use Rattle.sok_state.specs.Pushes.{IsLegal};
 ghost use Rattle.sok_alone.specs.Workspace.{IsWorkspace};
 
@@ -28,6 +30,8 @@ pub(crate) fn are_soon_solved(
     requires workspace { IsWorkspace setting.now.board.now workspace.old }
     requires state { IsKey setting.now.board.now start.now }
     ensures workspace { OnOk result (IsWorkspace setting.now.board.now workspace.new) }
+    ensures solved { IfOk result (λ solved. IsTrue solved → (w : List Dir)
+        × SolvesFrom setting.now.board.now.rows (key_position setting.now.board.now start.now) w) }
 {
     // Called for its clause that the boxes are few.
     let _boxes = start.boxes.list();

@@ -14,7 +14,7 @@ returns c =
     ] in
     IfOk-weaker c.loss_of_three-found.result _ _
     (λ found told. record {
-      losses = record { room = told.losses.room; each = told.losses.each; workspace = told.losses.workspace };
+      losses = record { room = told.losses.room; each = told.losses.each; numbered = told.losses.numbered; workspace = told.losses.workspace };
       kept = λ place loss there. told.kept place loss (kept place loss there);
       lost = told.lost;
     })

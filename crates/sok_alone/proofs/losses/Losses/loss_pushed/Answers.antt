@@ -29,4 +29,4 @@ returns c =
     (tells-among b asking.from after all
     (among-pushed asking.from asking.to asking.boxes.now c.in_ok-before.before after (λ square there. ((c.in_ok-before.ensures.exact square).0 there).0)
     c.in_ok-after.ensures.moved) old new)
-    c.loss_of.ensures
+    c.loss_of.ensures.tells
