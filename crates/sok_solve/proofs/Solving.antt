@@ -1,6 +1,6 @@
 -- What is answered to a level that is to be solved.
-use Rattle.std.proofs.Common.{ℕ, ◌≡◌, ◌<◌, ◌⊎◌, Bool, true, false, List, Option, Some, None, Result, Ok, Err}
-use Rattle.std.proofs.Common.{IsSome, MatchBool, MatchResult, inl, inr, length, refl, subst, sym, true≢false}
+use Rattle.std.proofs.Common.{ℕ, ◌≡◌, Bool, true, false, List, Option, Some, None, Result, Ok, Err}
+use Rattle.std.proofs.Common.{IsSome, MatchBool, MatchResult, refl, subst, sym, true≢false}
 use Rattle.std.specs.Option.{IsSomeAnd}
 use Rattle.sok_rules.specs.declared.cell.Dir.{Dir}
 use Rattle.sok_rules.specs.declared.fault.PlayFault.{PlayFault}
@@ -20,11 +20,9 @@ use Rattle.sok_engine.specs.declared.fault.ToolFault.{ToolFault}
 use Rattle.sok_engine.specs.declared.fault.ToolFault.TheVariants as tool
 use Rattle.sok_engine.specs.Certified.{Certified}
 use Rattle.sok_engine.specs.Faults.{of_play}
-use Rattle.sok_engine.specs.Limits.{cert_limit}
-use Rattle.sok_engine.specs.Written.{Answer, AnswersOf, Gives, IsFaultOf}
-use Rattle.sok_engine.proofs.Answering.{Within-few, Within-much}
+use Rattle.sok_engine.specs.Written.{Answer, Gives, IsFaultOf}
 use Rattle.sok_solve.specs.Faults.{of_solve}
-use Rattle.sok_solve.specs.Solves.{Becomes, BecomesWithin, IsAnswered, TellsWithin, is_bad, is_refused, is_told}
+use Rattle.sok_solve.specs.Solves.{IsAnswered, is_bad, is_refused, is_told}
 
 -- letters that solve are legal
 solves_legal : (end : Option Position) (P : Position → Type 0) → IsSomeAnd end P → IsSome end
@@ -38,12 +36,12 @@ replayed rows w play.TooLong solves blocked = absurd blocked
 replayed rows w play.Memory solves blocked = refl
 
 -- why a level is not solved is one of its answers, memory aside
-pub refused_answer : {A B : Type 0} {rows : Rows} {limit : ℕ} {fault : SolveFault} (Tells : A → Type 0) (Becoming : A → AnswersOf A) (told : ToolFault)
-    → TellsFault {A = B} rows limit (Err fault) → told ≡ of_solve fault → IsFaultOf (IsAnswered Tells Becoming limit rows) told
-refused_answer {B = B} {rows = rows} {limit = limit} {fault = fault} Tells Becoming told tells same =
-    subst (IsFaultOf (IsAnswered Tells Becoming limit rows)) (sym same) (of fault tells)
+pub refused_answer : {A B : Type 0} {rows : Rows} {limit : ℕ} {fault : SolveFault} (Tells : A → Type 0) (told : ToolFault)
+    → TellsFault {A = B} rows limit (Err fault) → told ≡ of_solve fault → IsFaultOf (IsAnswered Tells limit rows) told
+refused_answer {B = B} {rows = rows} {limit = limit} {fault = fault} Tells told tells same =
+    subst (IsFaultOf (IsAnswered Tells limit rows)) (sym same) (of fault tells)
   where
-    of : (fault : SolveFault) → TellsFault {A = B} rows limit (Err fault) → IsFaultOf (IsAnswered Tells Becoming limit rows) (of_solve fault)
+    of : (fault : SolveFault) → TellsFault {A = B} rows limit (Err fault) → IsFaultOf (IsAnswered Tells limit rows) (of_solve fault)
     of solve.BadLimit it = is_bad (it.bad_limit.0 refl) refl
     of (solve.Level board.Memory) it = tt
     of (solve.Level fault) it = is_refused (λ bad. let same = it.bad_limit.1 bad in cc) fault it.refused.0 it.refused.1 refl
@@ -56,25 +54,9 @@ found_of {found = found} it =
 
 -- what is told of it is its answer
 pub told_answer : {A B : Type 0} {rows : Rows} {limit : ℕ} {found : B} (Tells : A → Type 0) (answer : Result A ToolFault) → TellsFault rows limit (Ok found)
-    → MatchResult answer Tells (λ fault. fault ≡ tool.Memory) → Gives (IsAnswered Tells Becomes limit rows) answer
+    → MatchResult answer Tells (λ fault. fault ≡ tool.Memory) → Gives (IsAnswered Tells limit rows) answer
 told_answer Tells (Ok told) it tells = is_told (found_of it).0 (found_of it).1 told tells refl
-told_answer {rows = rows} {limit = limit} Tells (Err fault) it memory = subst (IsFaultOf (IsAnswered Tells Becomes limit rows)) (sym memory) tt
-
--- the same with a certificate, which may be too long
-pub told_within : {B : Type 0} {rows : Rows} {limit : ℕ} {found : B} (Tells : Certified → Type 0) (answer : Result Certified ToolFault)
-    → TellsFault rows limit (Ok found) → TellsWithin Tells answer → Gives (IsAnswered Tells BecomesWithin limit rows) answer
-told_within Tells (Ok told) it (tells, short) =
-    is_told (found_of it).0 (found_of it).1 told tells (Within-few cert_limit (λ bytes. Becomes told) told.cert (Ok told) short refl)
-told_within {rows = rows} {limit = limit} Tells (Err fault) it tells = elim tells [
-  | inl memory ↦ subst (IsFaultOf (IsAnswered Tells BecomesWithin limit rows)) (sym memory) tt
-  | inr long ↦ subst (IsFaultOf (IsAnswered Tells BecomesWithin limit rows)) (sym long.0)
-      (is_told (found_of it).0 (found_of it).1 long.1.0 long.1.1 (Within-much cert_limit (λ bytes. Becomes long.1.0) long.1.0.cert long.1.2))
-]
-
--- what would be told is too long, or memory was refused
-pub untold : (Tells : Certified → Type 0) (told : Certified) → Tells told → (fault : ToolFault)
-    → (fault ≡ tool.Memory) ⊎ ((fault ≡ tool.TooMuch) × (cert_limit < length told.cert)) → TellsWithin Tells (Err fault)
-untold Tells told tells fault why = elim why [ inl memory ↦ inl memory | inr (is, long) ↦ inr (is, (told, tells, long)) ]
+told_answer {rows = rows} {limit = limit} Tells (Err fault) it memory = subst (IsFaultOf (IsAnswered Tells limit rows)) (sym memory) tt
 
 abbrev answering : List ℕ → ℕ → Answer
 answering text status = record { text = text; status = status }

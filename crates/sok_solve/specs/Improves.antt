@@ -12,7 +12,7 @@ use Rattle.sok_search.specs.Outcomes.{Certifies, IsCutShortBeside, IsLeastSoluti
 use Rattle.sok_engine.specs.Certified.{Certified, CertifiedAnswers}
 use Rattle.sok_engine.specs.Inputs.{OnLevel}
 use Rattle.sok_engine.specs.Written.{Answer, Answers}
-use Rattle.sok_solve.specs.Solves.{Becomes, BecomesWithin, IsAnswered, bound_answer, certified_bound, certified_solution, limit_answer, solution_answer, uncertified_limit}
+use Rattle.sok_solve.specs.Solves.{IsAnswered, bound_answer, certified_bound, certified_solution, limit_answer, solution_answer, uncertified_limit}
 
 -- this many pushes, but no more than a certificate can claim
 abbrev pub up_to_claim : ℕ → ℕ
@@ -51,10 +51,10 @@ pub data TellsImprovement (limit best : ℕ) (bound : Bool) (rows : Rows) (told 
 
 -- without a certificate, and with one
 abbrev pub IsImproveAnswer : ℕ → ℕ → Bool → Rows → Answers
-IsImproveAnswer limit best bound rows = IsAnswered (TellsImproved limit best bound rows) Becomes limit rows
+IsImproveAnswer limit best bound rows = IsAnswered (TellsImproved limit best bound rows) limit rows
 
 abbrev pub IsCertifiedImproveAnswer : ℕ → ℕ → Bool → Rows → CertifiedAnswers
-IsCertifiedImproveAnswer limit best bound rows = IsAnswered (TellsImprovement limit best bound rows) BecomesWithin limit rows
+IsCertifiedImproveAnswer limit best bound rows = IsAnswered (TellsImprovement limit best bound rows) limit rows
 
 -- the answer to the n-th level of a collection, counted from 1
 abbrev pub IsImprove : ℕ → ℕ → ℕ → Bool → List ℕ → Answers

@@ -1,6 +1,6 @@
 -- The answers to a level that is to be solved within a limit of states, with a certificate or without. If the limit is exceeded, the answer may have the lower
 -- bound that the search shows, or not.
-use Rattle.std.specs.Prelude.{ℕ, ◌≡◌, ◌≢◌, Bool, true, false, List, [], ◌++◌, ◌≤◌, ◌<◌, ◌⊎◌, Some, None, Result, Ok, Err, codes, length}
+use Rattle.std.specs.Prelude.{ℕ, ◌≡◌, ◌≢◌, Bool, true, false, List, [], ◌++◌, Some, None, Result, Ok, Err, codes, length}
 use Rattle.std.specs.Fmt.{decimal}
 use Rattle.sok_rules.specs.declared.cell.Dir.{Dir}
 use Rattle.sok_rules.specs.Squares.{Rows}
@@ -19,9 +19,8 @@ use Rattle.sok_engine.specs.declared.fault.ToolFault.{ToolFault}
 use Rattle.sok_engine.specs.declared.fault.ToolFault.TheVariants as tool
 use Rattle.sok_engine.specs.Certified.{Certified, CertifiedAnswers}
 use Rattle.sok_engine.specs.Faults.{of_board}
-use Rattle.sok_engine.specs.Inputs.{OnLevel, Within}
-use Rattle.sok_engine.specs.Limits.{cert_limit}
-use Rattle.sok_engine.specs.Written.{Answer, Answers, AnswersOf}
+use Rattle.sok_engine.specs.Inputs.{OnLevel}
+use Rattle.sok_engine.specs.Written.{Answer, Answers}
 
 -- the line of a solution, and its marked text on a line of its own
 abbrev pub solution_text : Rows → List Dir → ℕ → List ℕ
@@ -77,32 +76,19 @@ pub data TellsOutcome (limit : ℕ) (bound : Bool) (rows : Rows) (told : Certifi
   is_bounded : (least : ℕ) (entries : List Entry) → IsCutShort rows limit limit least → Certifies rows limit (claim.Pushes least) entries → bound ≡ true
       → told ≡ certified_bound limit least entries → TellsOutcome limit bound rows told
 
--- an answer, whose certificate is not too long; or memory was refused, or the certificate is too long
-abbrev pub TellsWithin : (Certified → Type 0) → Result Certified ToolFault → Type 0
-TellsWithin Tells (Ok told) = Tells told × (length told.cert ≤ cert_limit)
-TellsWithin Tells (Err fault) = (fault ≡ tool.Memory) ⊎ ((fault ≡ tool.TooMuch) × ((told : Certified) × Tells told × (cert_limit < length told.cert)))
-
--- what was found becomes the answer
-abbrev pub Becomes : {A : Type 0} → A → AnswersOf A
-Becomes told answer = answer ≡ Ok told
-
--- the same, unless its certificate has more bytes than one may have
-abbrev pub BecomesWithin : Certified → CertifiedAnswers
-BecomesWithin told = Within cert_limit (λ bytes. Becomes told) told.cert
-
 -- the limit is refused; otherwise the level is refused; otherwise something is found of it, which becomes the answer
-pub data IsAnswered {A : Type 0} (Tells : A → Type 0) (Becoming : A → AnswersOf A) (limit : ℕ) (rows : Rows) (answer : Result A ToolFault) : Type 0 where
-  is_bad : IsBadLimit limit → answer ≡ Err tool.BadLimit → IsAnswered Tells Becoming limit rows answer
+pub data IsAnswered {A : Type 0} (Tells : A → Type 0) (limit : ℕ) (rows : Rows) (answer : Result A ToolFault) : Type 0 where
+  is_bad : IsBadLimit limit → answer ≡ Err tool.BadLimit → IsAnswered Tells limit rows answer
   is_refused : ¬ (IsBadLimit limit) → (fault : BoardFault) → fault ≢ board.Memory → IsRefused rows fault → answer ≡ Err (of_board fault)
-      → IsAnswered Tells Becoming limit rows answer
-  is_told : ¬ (IsBadLimit limit) → IsAcceptable rows → (told : A) → Tells told → Becoming told answer → IsAnswered Tells Becoming limit rows answer
+      → IsAnswered Tells limit rows answer
+  is_told : ¬ (IsBadLimit limit) → IsAcceptable rows → (told : A) → Tells told → answer ≡ Ok told → IsAnswered Tells limit rows answer
 
 -- with a certificate, and without one
 abbrev pub IsSolveAnswer : ℕ → Bool → Rows → CertifiedAnswers
-IsSolveAnswer limit bound rows = IsAnswered (TellsOutcome limit bound rows) BecomesWithin limit rows
+IsSolveAnswer limit bound rows = IsAnswered (TellsOutcome limit bound rows) limit rows
 
 abbrev pub IsFindAnswer : ℕ → Bool → Rows → Answers
-IsFindAnswer limit bound rows = IsAnswered (TellsFound limit bound rows) Becomes limit rows
+IsFindAnswer limit bound rows = IsAnswered (TellsFound limit bound rows) limit rows
 
 -- the answer to the n-th level of a collection, counted from 1
 abbrev pub IsSolve : ℕ → ℕ → Bool → List ℕ → CertifiedAnswers

@@ -1,26 +1,23 @@
 //! The text of a certificate, which is made as its entries are found.
 
-ghost use Rattle.std.specs.Prelude.{List, ◌≡◌, ◌∷◌, ◌++◌, [], IsTrue, OnErr, OnOk};
+ghost use Rattle.std.specs.Prelude.{List, ◌≡◌, ◌∷◌, ◌++◌, [], IfOk, IsTrue, OnErr, OnOk};
 ghost use Rattle.std.specs.Io.KnownBytes.{Appends};
 ghost use Rattle.sok_engine.specs.Written.{AppendsFront};
 ghost use Rattle.sok_cert.specs.Entry.{Entry};
-ghost use Rattle.sok_cert.specs.Text.{entry_from};
-ghost use Rattle.sok_solve.specs.Lines.{HasLines, TellsReady};
+ghost use Rattle.sok_cert.specs.Text.{entry_from, text_of};
+ghost use Rattle.sok_solve.specs.Lines.{HasLines};
 
 use sok_cert::claim::Claim;
 use sok_cert::entry::Reason;
 use sok_cert::version::Version;
 use sok_cert::writing::{is_pattern, push_end, push_entry, push_front};
-use sok_engine::fault::ToolFault;
-use sok_engine::input::CERT_LIMIT;
 use sok_engine::output::{WriteFailed, write_whole};
 use sok_search::collecting::Entries;
 use std::alloc::{AllocError, Global};
 use std::io::Write;
 use std::marker::Model;
 
-/// The lines of the entries that were taken, and whether one of them is a pattern. Once the lines
-/// are longer than a certificate may be, no more are kept.
+/// The lines of the entries that were taken, and whether one of them is a pattern.
 #[derive(Drop)]
 pub struct EntryLines {
     lines: Vec<u8>,
@@ -50,9 +47,6 @@ impl EntryLines {
             → HasLines self.new (entries ++ entry_from depth player boxes.now reason.now ∷ [])) }
     {
         self.has_pattern |= is_pattern(reason);
-        if self.lines.len() > CERT_LIMIT {
-            return Ok(());
-        }
         push_entry(&mut self.lines, depth, player, boxes, reason)
     }
 }
@@ -89,9 +83,10 @@ impl Model for ReadyCert {
 }
 
 impl ReadyCert {
-    /// Makes the text of a certificate. `TooMuch` if it is longer than a certificate may be.
-    pub fn new(alloc: Global, claim: &Claim, taken: EntryLines) -> Result<ReadyCert, ToolFault>
-        ensures { TellsReady claim.now (HasLines taken) result }
+    /// Makes the text of a certificate, of any length.
+    pub fn new(alloc: Global, claim: &Claim, taken: EntryLines) -> Result<ReadyCert, AllocError>
+        ensures { IfOk result (λ ready. (entries : List Entry) → HasLines taken entries
+            → ready ≡ text_of claim.now entries) }
     {
         let EntryLines {
             mut lines,
@@ -105,9 +100,6 @@ impl ReadyCert {
         let mut front = Vec::new(alloc);
         push_front(&mut front, version, claim)?;
         push_end(&mut lines)?;
-        if front.len().saturating_add(lines.len()) > CERT_LIMIT {
-            return Err(ToolFault::TooMuch);
-        }
         Ok(ReadyCert { front, lines })
     }
 

@@ -1,15 +1,15 @@
 //! A solution with fewer pushes than a known one, with a certificate.
 
-ghost use Rattle.std.specs.Prelude.{◌≤◌};
+ghost use Rattle.std.specs.Prelude.{◌≡◌, ◌≤◌, MatchResult};
 ghost use Rattle.sok_cert.specs.Text.{number_limit};
 ghost use Rattle.sok_engine.specs.Certified.{WritesBoth};
 ghost use Rattle.sok_engine.specs.Inputs.{OfReader, Within};
 ghost use Rattle.sok_engine.specs.Limits.{input_limit};
 ghost use Rattle.sok_engine.specs.Written.{Gives};
+ghost use Rattle.sok_engine.specs.declared.fault.ToolFault.TheVariants as tool;
 ghost use Rattle.sok_search.specs.Outcomes.{IsImprovedWithProof};
 ghost use Rattle.sok_solve.specs.Improves.{IsCertifiedImprove, IsCertifiedImproveAnswer, TellsImprovement, up_to_claim};
 ghost use Rattle.sok_solve.specs.Lines.{HasLines};
-ghost use Rattle.sok_solve.specs.Solves.{TellsWithin};
 
 use crate::certificate::{EntryLines, ReadyCert};
 use crate::improve::at_least_text;
@@ -115,7 +115,8 @@ fn told(
     taken: EntryLines,
 ) -> Result<CertifiedAnswer, ToolFault>
     requires { IsImprovedWithProof (HasLines taken) level.now limit bound best improved }
-    ensures { TellsWithin (TellsImprovement limit best bound level.now) result }
+    ensures { MatchResult result (TellsImprovement limit best bound level.now)
+        (λ fault. fault ≡ tool.Memory) }
 {
     match improved {
         Improved::Fewer { dirs, pushes } => {

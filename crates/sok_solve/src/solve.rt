@@ -10,7 +10,7 @@ ghost use Rattle.sok_rules.specs.Play.{Solves};
 ghost use Rattle.sok_search.specs.Outcomes.{IsFoundWithProof};
 ghost use Rattle.sok_solve.specs.Faults.{of_solve};
 ghost use Rattle.sok_solve.specs.Lines.{HasLines};
-ghost use Rattle.sok_solve.specs.Solves.{IsSolve, IsSolveAnswer, TellsOutcome, TellsWithin};
+ghost use Rattle.sok_solve.specs.Solves.{IsSolve, IsSolveAnswer, TellsOutcome};
 ghost use Rattle.sok_solve.specs.Solves.{bound_answer, limit_answer, solution_text};
 
 use crate::certificate::{EntryLines, ReadyCert};
@@ -39,10 +39,10 @@ use std::marker::Model;
 ///   `limit S at least K` with a certificate that no solution has fewer than K pushes.
 ///
 /// Errors, in this order, with nothing written: `ReadFailed` or `TooMuch`; `NoSuchLevel` or another
-/// fault of the level; `BadLimit`; a fault of its board; `TooMuch` if the certificate would be
-/// longer than one may be. `WriteFailed` as soon as a write fails: after a first part of the
-/// certificate and nothing of the answer, or after the certificate and a first part of the answer.
-/// For a reader whose remaining bytes are unknown, this is promised for some bytes.
+/// fault of the level; `BadLimit`; a fault of its board. `WriteFailed` as soon as a write fails:
+/// after a first part of the certificate and nothing of the answer, or after the certificate and a
+/// first part of the answer. The certificate may be longer than one that is read. For a reader whose
+/// remaining bytes are unknown, this is promised for some bytes.
 pub fn solve_bytes<R: Read, W: Write, C: Write>(
     alloc: Global,
     input: &mut R,
@@ -151,7 +151,8 @@ fn told(
     taken: EntryLines,
 ) -> Result<CertifiedAnswer, ToolFault>
     requires { IsFoundWithProof (HasLines taken) level.now limit bound found }
-    ensures { TellsWithin (TellsOutcome limit bound level.now) result }
+    ensures { MatchResult result (TellsOutcome limit bound level.now)
+        (λ fault. fault ≡ tool.Memory) }
 {
     match found {
         Found::Solved { dirs, pushes } => {

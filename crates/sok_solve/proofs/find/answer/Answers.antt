@@ -1,4 +1,4 @@
-use Rattle.sok_solve.specs.Solves.{Becomes, TellsFound}
+use Rattle.sok_solve.specs.Solves.{TellsFound}
 use Rattle.sok_solve.proofs.Solving.{refused_answer, told_answer}
 use Rattle.sok_solve.proofs.find.answer.Goals as goal
 
@@ -7,4 +7,4 @@ returns-in-Ok c = told_answer (TellsFound c.args.limit c.args.bound c.args.level
 
 pub returns-in-Err : goal.returns-in-Err
 returns-in-Err c =
-    refused_answer (TellsFound c.args.limit c.args.bound c.args.level.now) Becomes c.tool_fault.result c.in-Err.ensures.tells c.tool_fault.ensures
+    refused_answer (TellsFound c.args.limit c.args.bound c.args.level.now) c.tool_fault.result c.in-Err.ensures.tells c.tool_fault.ensures

@@ -1,5 +1,4 @@
 use Rattle.sok_solve.specs.Improves.{TellsImproved}
-use Rattle.sok_solve.specs.Solves.{Becomes}
 use Rattle.sok_solve.proofs.Solving.{refused_answer, told_answer}
 use Rattle.sok_solve.proofs.improve.answer.Goals as goal
 
@@ -8,4 +7,4 @@ returns-in-Ok c = told_answer (TellsImproved c.args.limit c.args.best c.args.bou
 
 pub returns-in-Err : goal.returns-in-Err
 returns-in-Err c =
-    refused_answer (TellsImproved c.args.limit c.args.best c.args.bound c.args.level.now) Becomes c.tool_fault.result c.in-Err.ensures.tells c.tool_fault.ensures
+    refused_answer (TellsImproved c.args.limit c.args.best c.args.bound c.args.level.now) c.tool_fault.result c.in-Err.ensures.tells c.tool_fault.ensures

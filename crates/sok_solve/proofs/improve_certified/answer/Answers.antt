@@ -1,11 +1,10 @@
 use Rattle.sok_solve.specs.Improves.{TellsImprovement}
-use Rattle.sok_solve.specs.Solves.{BecomesWithin}
-use Rattle.sok_solve.proofs.Solving.{refused_answer, told_within}
+use Rattle.sok_solve.proofs.Solving.{refused_answer, told_answer}
 use Rattle.sok_solve.proofs.improve_certified.answer.Goals as goal
 
 pub returns-in-Ok : goal.returns-in-Ok
-returns-in-Ok c = told_within (TellsImprovement c.args.limit c.args.best c.args.bound c.args.level.now) c.told.result c.in-Ok.ensures.tells c.told.ensures
+returns-in-Ok c = told_answer (TellsImprovement c.args.limit c.args.best c.args.bound c.args.level.now) c.told.result c.in-Ok.ensures.tells c.told.ensures
 
 pub returns-in-Err : goal.returns-in-Err
 returns-in-Err c =
-    refused_answer (TellsImprovement c.args.limit c.args.best c.args.bound c.args.level.now) BecomesWithin c.tool_fault.result c.in-Err.ensures.tells c.tool_fault.ensures
+    refused_answer (TellsImprovement c.args.limit c.args.best c.args.bound c.args.level.now) c.tool_fault.result c.in-Err.ensures.tells c.tool_fault.ensures

@@ -1,10 +1,8 @@
-use Rattle.std.proofs.Common.{◌∙◌, ap, arith, refl, subst}
-use Rattle.std.proofs.lemmas.Result.{err_from_is_err_and}
+use Rattle.std.proofs.Common.{◌∙◌, ap, refl, subst}
 use Rattle.sok_search.specs.Outcomes.{IsFoundWithProof}
 use Rattle.sok_solve.specs.Lines.{HasLines}
-use Rattle.sok_solve.specs.Solves.{TellsOutcome, bound_answer, certified_bound, certified_solution, certified_unsolvable, is_bounded, is_limited, is_solved}
-use Rattle.sok_solve.specs.Solves.{is_unsolvable, limit_answer, solution_text}
-use Rattle.sok_solve.proofs.Solving.{asked, at_limit, same_certified, untold}
+use Rattle.sok_solve.specs.Solves.{bound_answer, is_bounded, is_limited, is_solved, is_unsolvable, limit_answer, solution_text}
+use Rattle.sok_solve.proofs.Solving.{asked, at_limit, same_certified}
 use Rattle.sok_solve.proofs.solve.told.Goals as goal
 
 pub returns-in_ok-text-in-Solved : goal.returns-in_ok-text-in-Solved
@@ -13,35 +11,13 @@ returns-in_ok-text-in-Solved c =
     let (entries, took, shown) = subst (IsFoundWithProof (HasLines c.args.taken) c.args.level.now c.args.limit c.args.bound) found.is c.requires in
     let words = c.new-answer.ensures.text ∙ c.in_ok-text-in-Solved.ensures
     ∙ ap (λ w. solution_text c.args.level.now w found.pushes) c.as_slice.ensures.value in
-    let (written, short) = c.in_ok-cert-in-Solved.ensures entries took in (
-      is_solved found.dirs.items found.pushes entries shown (same_certified _ _ _ _ _ _ written words c.new-answer.ensures.status),
-      short,
-    )
-
-pub returns-in_err-cert-in-Solved : goal.returns-in_err-cert-in-Solved
-returns-in_err-cert-in-Solved c =
-    let found = c.in-Solved in
-    let rows = c.args.level.now in
-    let (entries, took, shown) = subst (IsFoundWithProof (HasLines c.args.taken) rows c.args.limit c.args.bound) found.is c.requires in
-    let p = err_from_is_err_and c.from_residual.result c.from_residual.ensures.1 in
-    rw (p.1, p.2) (untold (TellsOutcome c.args.limit c.args.bound rows) (certified_solution rows found.dirs.items found.pushes entries)
-    (is_solved found.dirs.items found.pushes entries shown refl) c.in_err-cert-in-Solved.field-0.0 (c.in_err-cert-in-Solved.ensures entries took))
+    is_solved found.dirs.items found.pushes entries shown (same_certified _ _ _ _ _ _ (c.in_ok-cert-in-Solved.ensures entries took) words c.new-answer.ensures.status)
 
 pub returns-in_ok-text-in-Unsolvable : goal.returns-in_ok-text-in-Unsolvable
 returns-in_ok-text-in-Unsolvable c =
     let (entries, took, shown) = subst (IsFoundWithProof (HasLines c.args.taken) c.args.level.now c.args.limit c.args.bound) c.in-Unsolvable.is c.requires in
     let words = c.new-answer-in-Unsolvable.ensures.text ∙ ap (λ bytes. bytes.items) c.into_bytes.ensures.value ∙ c.in_ok-text-in-Unsolvable.ensures.ok in
-    let (written, short) = c.in_ok-cert-in-Unsolvable.ensures entries took in (
-      is_unsolvable entries shown (same_certified _ _ _ _ _ _ written words c.new-answer-in-Unsolvable.ensures.status),
-      short,
-    )
-
-pub returns-in_err-cert-in-Unsolvable : goal.returns-in_err-cert-in-Unsolvable
-returns-in_err-cert-in-Unsolvable c =
-    let (entries, took, shown) = subst (IsFoundWithProof (HasLines c.args.taken) c.args.level.now c.args.limit c.args.bound) c.in-Unsolvable.is c.requires in
-    let p = err_from_is_err_and c.from_residual-in_err-cert-in-Unsolvable.result c.from_residual-in_err-cert-in-Unsolvable.ensures.1 in
-    rw (p.1, p.2) (untold (TellsOutcome c.args.limit c.args.bound c.args.level.now) (certified_unsolvable entries)
-    (is_unsolvable entries shown refl) c.in_err-cert-in-Unsolvable.field-0.0 (c.in_err-cert-in-Unsolvable.ensures entries took))
+    is_unsolvable entries shown (same_certified _ _ _ _ _ _ (c.in_ok-cert-in-Unsolvable.ensures entries took) words c.new-answer-in-Unsolvable.ensures.status)
 
 pub returns-then-bound : goal.returns-then-bound
 returns-then-bound c =
@@ -50,30 +26,14 @@ returns-then-bound c =
     let (cut, shows) = subst (IsFoundWithProof (HasLines c.args.taken) rows c.args.limit c.args.bound) met.is c.requires in
     let (entries, took, certified) = asked _ _ c.args.bound c.if-bound.true shows in
     let words = c.new-answer-then-bound.ensures.text ∙ c.in_ok-text-in-Limit.ensures ∙ ap (λ n. (bound_answer n met.at_least).text) cut.past.is in
-    let (written, short) = c.in_ok-cert-in-Limit.ensures entries took in (
-      is_bounded met.at_least entries (at_limit rows c.args.limit met.states met.at_least cut) certified c.if-bound.true
-          (same_certified _ _ _ _ _ _ written words c.new-answer-then-bound.ensures.status),
-      short,
-    )
-
-pub returns-in_err-cert-in-Limit : goal.returns-in_err-cert-in-Limit
-returns-in_err-cert-in-Limit c =
-    let rows = c.args.level.now in
-    let met = c.in-Limit in
-    let (cut, shows) = subst (IsFoundWithProof (HasLines c.args.taken) rows c.args.limit c.args.bound) met.is c.requires in
-    let (entries, took, certified) = asked _ _ c.args.bound c.if-bound.true shows in
-    let p = err_from_is_err_and c.from_residual-in_err-cert-in-Limit.result c.from_residual-in_err-cert-in-Limit.ensures.1 in
-    rw (p.1, p.2) (untold (TellsOutcome c.args.limit c.args.bound rows) (certified_bound c.args.limit met.at_least entries)
-    (is_bounded met.at_least entries (at_limit rows c.args.limit met.states met.at_least cut) certified c.if-bound.true refl)
-    c.in_err-cert-in-Limit.field-0.0 (c.in_err-cert-in-Limit.ensures entries took))
+    is_bounded met.at_least entries (at_limit rows c.args.limit met.states met.at_least cut) certified c.if-bound.true
+    (same_certified _ _ _ _ _ _ (c.in_ok-cert-in-Limit.ensures entries took) words c.new-answer-then-bound.ensures.status)
 
 pub returns-in_ok-text-in-Limit-2 : goal.returns-in_ok-text-in-Limit-2
 returns-in_ok-text-in-Limit-2 c =
     let rows = c.args.level.now in
     let met = c.in-Limit in
     let (cut, shows) = subst (IsFoundWithProof (HasLines c.args.taken) rows c.args.limit c.args.bound) met.is c.requires in
-    let words = c.new-answer-in-Limit.ensures.text ∙ c.in_ok-text-in-Limit-2.ensures ∙ ap (λ n. (limit_answer n).text) cut.past.is in (
-      is_limited met.at_least (at_limit rows c.args.limit met.states met.at_least cut) c.if-bound.false
-          (same_certified _ _ _ _ _ _ refl words c.new-answer-in-Limit.ensures.status),
-      omega arith,
-    )
+    let words = c.new-answer-in-Limit.ensures.text ∙ c.in_ok-text-in-Limit-2.ensures ∙ ap (λ n. (limit_answer n).text) cut.past.is in
+    is_limited met.at_least (at_limit rows c.args.limit met.states met.at_least cut) c.if-bound.false
+    (same_certified _ _ _ _ _ _ refl words c.new-answer-in-Limit.ensures.status)
