@@ -1,5 +1,5 @@
 -- How a call ends that has no answer.
-use Rattle.std.proofs.Common.{ℕ, ◌≡◌, ◌⊎◌, ◌∙◌, inl, inr, sym, List, Option, Result, Ok, Err, IfErr, IfOk, OnOk}
+use Rattle.std.proofs.Common.{ℕ, ◌≡◌, ◌≢◌, ◌⊎◌, ◌∙◌, inl, inr, sym, List, Option, Result, Ok, Err, IfErr, IfOk, OnOk}
 use Rattle.sqlite.specs.State.{State}
 use Rattle.std.proofs.KnownBytes.{Keeps-refl}
 use Rattle.sok_text.specs.declared.lurd.LurdFault.{LurdFault}
@@ -97,3 +97,18 @@ pub unread_takes : {T : Type 0} (s : State) (Makes MayMake : Book → Book → T
     → TakesIn {T = T} s s Makes MayMake (Err (of_input fault))
 unread_takes s Makes MayMake fault turns =
     record { writes = turns; keeps_open = tt; stop = stops_same s MayMake; cause = λ told. absurd (input_database fault told) }
+
+-- ---- calls that read nothing
+
+pub book_unread : (fault : BookFault) → of_book fault ≢ tool.ReadFailed
+book_unread refusal.Memory is = let no : ⊥ = cc in no
+book_unread fault is = let no : ⊥ = cc in no
+
+pub lurd_unread : (fault : LurdFault) → of_lurd fault ≢ tool.ReadFailed
+lurd_unread lurd.Memory is = let no : ⊥ = cc in no
+lurd_unread fault is = let no : ⊥ = cc in no
+
+pub written_unread : (answer : Answer) (held later : Option (List ℕ)) (result : Result ℕ ToolFault) → WritesOne answer held later result
+    → IfErr result (λ fault. fault ≢ tool.ReadFailed)
+written_unread answer held later (Ok status) written = tt
+written_unread answer held later (Err fault) written = λ is. let no : tool.WriteFailed ≡ tool.ReadFailed = sym written.0 ∙ is in absurd cc

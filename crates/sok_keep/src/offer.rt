@@ -1,7 +1,8 @@
 //! Offering a solution of a level of a book.
 
-ghost use Rattle.std.specs.Prelude.{◌≡◌, ◌≤◌, IfErr, OnOk, length};
+ghost use Rattle.std.specs.Prelude.{◌≡◌, ◌≢◌, ◌≤◌, IfErr, OnOk, length};
 ghost use Rattle.sqlite.specs.Held.{state};
+ghost use Rattle.sok_engine.specs.declared.fault.ToolFault.TheVariants as tool;
 ghost use Rattle.sok_store.specs.Calls.{ChangesBook, EndsOpen, Stops};
 ghost use Rattle.sok_keep.specs.Causes.{IsCausedFault};
 ghost use Rattle.sok_keep.specs.Offers.{OffersText, WritesOffer};
@@ -42,6 +43,7 @@ pub fn offer_bytes<S: Alter, W: Write>(
         (OffersText id text.now)) }
     ensures stop { Stops (state S.Store book.old) (state S.Store book.new)
         (OffersText id text.now) }
+    ensures reads { IfErr result (λ fault. fault ≢ tool.ReadFailed) }
 {
     let letters = read_lurd(alloc, text)?;
     match book.offer_with_best(id, &letters) {

@@ -1,6 +1,6 @@
 //! Showing one level of a book, or writing a text of all.
 
-ghost use Rattle.std.specs.Prelude.{◌≡◌, ◌⊎◌, IfErr, IfOk, IsNone};
+ghost use Rattle.std.specs.Prelude.{◌≡◌, ◌≢◌, ◌⊎◌, IfErr, IfOk, IsNone};
 ghost use Rattle.sqlite.specs.Held.{state};
 ghost use Rattle.sok_book.specs.Books.{page_at};
 ghost use Rattle.sok_book.specs.Records.{IsRecordAt};
@@ -8,6 +8,7 @@ ghost use Rattle.sok_book.specs.declared.fault.BookFault.{BookFault};
 ghost use Rattle.sok_book.specs.declared.fault.BookFault.TheVariants as refusal;
 ghost use Rattle.sok_engine.specs.Faults.{of_book};
 ghost use Rattle.sok_engine.specs.Written.{Gives, Writes};
+ghost use Rattle.sok_engine.specs.declared.fault.ToolFault.TheVariants as tool;
 ghost use Rattle.sok_store.specs.Faults.{IsOutside};
 ghost use Rattle.sok_store.specs.Calls.{KeepsBook, MakesNone, Stops, id_number};
 ghost use Rattle.sok_keep.specs.Causes.{IsCausedFault};
@@ -40,6 +41,7 @@ pub fn show_bytes<S: Alter, W: Write>(
     ensures cause { IfErr result
         (IsCausedFault (state S.Store book.old) (state S.Store book.new) MakesNone) }
     ensures stop { Stops (state S.Store book.old) (state S.Store book.new) MakesNone }
+    ensures reads { IfErr result (λ fault. fault ≢ tool.ReadFailed) }
 {
     let kept = record_at(book, id)?;
     let answer = Answer::new(shown_text(alloc, &kept)?, 0);
@@ -86,6 +88,7 @@ pub fn book_bytes<S: Alter, W: Write>(
     ensures cause { IfErr result
         (IsCausedFault (state S.Store book.old) (state S.Store book.new) MakesNone) }
     ensures stop { Stops (state S.Store book.old) (state S.Store book.new) MakesNone }
+    ensures reads { IfErr result (λ fault. fault ≢ tool.ReadFailed) }
 {
     let answer = told(alloc, book, text)?;
     answer.write(out)
@@ -98,6 +101,7 @@ fn told<S: Alter>(alloc: Global, book: &mut Book<S>, text: BookText) -> Result<A
     ensures cause { IfErr result
         (IsCausedFault (state S.Store book.old) (state S.Store book.new) MakesNone) }
     ensures stop { Stops (state S.Store book.old) (state S.Store book.new) MakesNone }
+    ensures reads { IfErr result (λ fault. fault ≢ tool.ReadFailed) }
 {
     match book.list() {
         Ok(records) => Ok(Answer::new(book_text(alloc, &records, text)?, 0)),

@@ -4,7 +4,7 @@ use Rattle.std.proofs.lemmas.Result.{err_from_is_err_and}
 use Rattle.sqlite.specs.Held.{state}
 use Rattle.sok_text.specs.Lurd.{Spells}
 use Rattle.sok_keep.specs.Offers.{OffersText}
-use Rattle.sok_keep.proofs.Ending.{caused_more, done_open, lurd_database, written_caused}
+use Rattle.sok_keep.proofs.Ending.{book_unread, caused_more, done_open, lurd_database, lurd_unread, written_caused, written_unread}
 use Rattle.sok_keep.proofs.Offering.{offer_done, offer_refused, offer_unread}
 use Rattle.sok_store.proofs.Calls.{stops_less, stops_same}
 use Rattle.sok_keep.proofs.offer.offer_bytes.Goals as goal
@@ -63,3 +63,15 @@ returns-clause-stop g c =
     let spelled : Spells c.args.text.now c.deref.result.now = subst (Spells c.args.text.now) (sym c.deref.ensures.value) c.in_ok-letters.ensures in
     stops_less (state g.S.Store c.args.book.now) (state g.S.Store c.offer_with_best.new.self) _ (OffersText c.args.id c.args.text.now)
     (λ book after made. (c.deref.result.now, spelled, made.0.offer, made.1.offered)) (rw (to_z-of_z w64 c.args.id c.ranges.id) at c.offer_with_best.ensures.stop)
+
+pub returns-in_err-letters-clause-reads : goal.returns-in_err-letters-clause-reads
+returns-in_err-letters-clause-reads g c =
+    let p = err_from_is_err_and c.from_residual.result c.from_residual.ensures.1 in
+    rw p.1 (λ told. lurd_unread c.in_err-letters.field-0.0 (sym p.2 ∙ told))
+
+pub returns-in-Ok-clause-reads : goal.returns-in-Ok-clause-reads
+returns-in-Ok-clause-reads g c =
+    written_unread _ (g.W.Write.contents c.args.out.now) (g.W.Write.contents c.write_line.new.out) c.write_line.result c.write_line.ensures
+
+pub returns-clause-reads : goal.returns-clause-reads
+returns-clause-reads g c = rw c.from.ensures (book_unread c.in-Err.fault)
