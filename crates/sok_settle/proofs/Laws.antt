@@ -19,7 +19,7 @@ use Rattle.sok_store.proofs.Found.{page_there}
 use Rattle.sok_settle.specs.declared.settle.Span.{Span}
 use Rattle.sok_settle.specs.Going.{more, none}
 use Rattle.sok_settle.specs.Keeping.{Keeping}
-use Rattle.sok_settle.specs.Settles.{IsBeyond, IsTried, EndsLevel, SettlesBy, SettlesFirst, SettlesLevel, is_passed, is_past_limit, is_settled, is_too_long, is_too_much, level_leave, level_step}
+use Rattle.sok_settle.specs.Settles.{IsBeyond, IsTried, EndsLevel, SettlesBy, SettlesFirst, SettlesLevel, is_passed, is_past_limit, is_settled, is_too_long, level_leave, level_step}
 use Rattle.sok_settle.specs.Laws.{SettledHaveCerts, SettledHaveVerdicts, SettlingsAreSome, SettlingsFold, SettlingsKeepTruth, SettlingsKeepVerdicts}
 use Rattle.sok_settle.proofs.Levels.{best_untested}
 use Rattle.sok_settle.proofs.Settling.{else_offered, else_settled, first_stays, stays}
@@ -52,7 +52,6 @@ level_made keeping limit span id book before after line settled made (is_settled
 level_made keeping limit span id book before after line settled made (is_past_limit page least tried cut fewer says is same) = subst (IsMadeOf book) (sym same) made
 level_made keeping limit span id book before after line settled made (is_too_long page letters pushes tried least many says is same) =
     subst (IsMadeOf book) (sym same) made
-level_made keeping limit span id book before after line settled made (is_too_much page tried unkept says is same) = subst (IsMadeOf book) (sym same) made
 
 left_made : (span : Span) (id : ℤ) (book before after : Book) → IsMadeOf book before → EndsLevel span id before after → IsMadeOf book after
 left_made span id book before after made (inl same) = subst (IsMadeOf book) (sym same) made
@@ -102,8 +101,6 @@ level_kept keeping limit span n book after line settled id page (is_past_limit o
     ap (λ (b : Book). page_at b id) same ∙ there
 level_kept keeping limit span n book after line settled id page (is_too_long other letters pushes tried least many says is same) there kept =
     ap (λ (b : Book). page_at b id) same ∙ there
-level_kept keeping limit span n book after line settled id page (is_too_much other tried unkept says is same) there kept =
-    ap (λ (b : Book). page_at b id) same ∙ there
 
 first_kept : (keeping : Keeping) (limit : ℕ) (span : Span) (book : Book) (n : ℕ) (text : List ℕ) (all : Bool) (after : Book) (id : ℕ) (page : Page)
     → SettlesFirst keeping limit span book n text all after → page_at book id ≡ Some page → IsKeptAsIs span id page → page_at after id ≡ Some page
@@ -150,7 +147,6 @@ level_tested keeping limit span n book after line page (is_settled other shown t
     inr (λ untested. never_untested shown (by_verdict (pos (n + 1)) book after other.level shown line true page by there ∙ untested))
 level_tested keeping limit span n book after line page (is_past_limit other least tried cut fewer says is same) there = absurd cc
 level_tested keeping limit span n book after line page (is_too_long other letters pushes tried least many says is same) there = absurd cc
-level_tested keeping limit span n book after line page (is_too_much other tried unkept says is same) there = absurd cc
 
 else_at : (book after : Book) (place id : ℕ) (page : Page) → page_at after id ≡ Some page → (place ≡ id - 1 → ⊥)
     → ((m : ℕ) → (place ≡ m → ⊥) → slice_get after m ≡ slice_get book m) → page_at book id ≡ Some page
@@ -233,8 +229,6 @@ module _ (keeping : Keeping) (limit : ℕ) (span : Span) where
   level_cert n book after line settled page new (is_past_limit other least tried cut fewer says is same) there then_there untested tested =
       absurd (tested (unchanged (n + 1) book after page new same there then_there untested))
   level_cert n book after line settled page new (is_too_long other letters pushes tried least many says is same) there then_there untested tested =
-      absurd (tested (unchanged (n + 1) book after page new same there then_there untested))
-  level_cert n book after line settled page new (is_too_much other tried unkept says is same) there then_there untested tested =
       absurd (tested (unchanged (n + 1) book after page new same there then_there untested))
 
   -- the page of the next level is as it was

@@ -32,8 +32,8 @@ use Rattle.sok_keep.proofs.Ending.{caused_more}
 use Rattle.sok_settle.specs.declared.settle.Span.{Span}
 use Rattle.sok_settle.specs.Going.{MayStep}
 use Rattle.sok_settle.specs.Keeping.{Keeping, TellsKept}
-use Rattle.sok_settle.specs.Lines.{TellsFault, TellsLine, TellsUnkept, fault_line}
-use Rattle.sok_settle.specs.Settles.{EndsLevel, SettlesBy, SettlesLevel, is_past_limit, is_settled, is_too_long, is_too_much, IsTried, leave_of_level, limit_line, optimal_line, too_long, unsolvable_line}
+use Rattle.sok_settle.specs.Lines.{TellsFault, TellsLine, fault_line}
+use Rattle.sok_settle.specs.Settles.{EndsLevel, SettlesBy, SettlesLevel, is_past_limit, is_settled, is_too_long, IsTried, leave_of_level, limit_line, optimal_line, too_long, unsolvable_line}
 use Rattle.sok_settle.specs.Steps.{AreFewest, GoesBy, GoesThrough, leave_of_kept}
 use Rattle.sok_settle.proofs.Going.{changes_leads, left_steps, memory_goes, same_leads, step_other, told_goes, unwritten_goes}
 use Rattle.sok_settle.proofs.Levels.{HasLeast, best_stays, best_told, never_differs, never_refused, never_solved, offered_best}
@@ -85,24 +85,14 @@ module _ (keeping : Keeping) (limit : ℕ) (span : Span) (id : ℤ) (page : Page
   -- ---- its certificate
 
   module _ (shown : Claim) where
-    -- it is refused
-    unkept : (X : Type 0) (s : State) (fault : ToolFault) (held later : Option (List ℕ)) (result : Result Bool ToolFault)
-        → TellsKept {X = X} keeping limit id page.level shown (Err fault) → TellsUnkept id fault held later result → through_tried s s held later result
-    unkept X s tool.TooMuch held later result refused tells =
-        fault_goes s tool.TooMuch held later result (λ book tried. is_too_much page tried refused refl refl refl) tells
-    unkept X s tool.WriteFailed held later result refused (is, keeps) =
-        subst (λ (r : Result Bool ToolFault). through_tried s s held later r) (sym is)
-        (unwritten_goes (SettlesLevel keeping limit span id) (leave_of_level keeping limit span id) (IsTried span id page) s held later keeps
-        (λ book tried. (page, tried, refused)))
-    unkept X s tool.Memory held later result refused (is, keeps) =
-        subst (λ (r : Result Bool ToolFault). through_tried s s held later r) (sym is) (memory_refused s held later keeps)
-    unkept X s fault held later result never tells = absurd never
-
-    pub unkept_goes : (X : Type 0) (s : State) (passed : ℤ) (fault : ToolFault) (held later : Option (List ℕ)) (result : Result Bool ToolFault) → passed ≡ id
-        → TellsKept {X = X} keeping limit passed page.level shown (Err fault) → TellsUnkept passed fault held later result → through_tried s s held later result
-    unkept_goes X s passed fault held later result same refused tells =
-        unkept X s fault held later result (subst (λ i. TellsKept {X = X} keeping limit i page.level shown (Err fault)) same refused)
-        (subst (λ i. TellsUnkept i fault held later result) same tells)
+    -- it is not kept
+    pub unkept_goes : (X : Type 0) (s : State) (fault : ToolFault) (held : Option (List ℕ)) → TellsKept {X = X} keeping limit id page.level shown (Err fault)
+        → through_tried s s held held (Err fault)
+    unkept_goes X s tool.WriteFailed held may =
+        unwritten_goes (SettlesLevel keeping limit span id) (leave_of_level keeping limit span id) (IsTried span id page) s held held (Keeps-refl held)
+        (λ book tried. (page, tried, may))
+    unkept_goes X s tool.Memory held may = memory_refused s held held (Keeps-refl held)
+    unkept_goes X s fault held never = absurd never
 
     -- it is kept, and then the level is settled by its claim
     pub kept_goes : (old new : State) (held later : Option (List ℕ)) (result : Result Bool ToolFault) → keeping.keeps limit id page.level shown

@@ -29,7 +29,7 @@ use Rattle.sok_keep.proofs.Ending.{caused_more}
 use Rattle.sok_settle.specs.declared.settle.Span.{Span}
 use Rattle.sok_settle.specs.Going.{EndsAt, GoesWhere, HasGone, more, none}
 use Rattle.sok_settle.specs.Keeping.{Keeping}
-use Rattle.sok_settle.specs.Settles.{EndsSettling, SettlesBy, SettlesFirst, SettlesLevel, SettlesSome, WritesSettling, is_passed, is_past_limit, is_settled, is_too_long, is_too_much, level_leave, level_step, settle_status}
+use Rattle.sok_settle.specs.Settles.{EndsSettling, SettlesBy, SettlesFirst, SettlesLevel, SettlesSome, WritesSettling, is_passed, is_past_limit, is_settled, is_too_long, level_leave, level_step, settle_status}
 use Rattle.sok_settle.specs.Steps.{GoesThrough, IsRecordIn, MaySettle, StaysFrom, StepsLevel}
 use Rattle.sok_settle.proofs.Going.{goes_other}
 use Rattle.sok_settle.proofs.Stepping as stepping
@@ -64,7 +64,6 @@ else_settled keeping limit span id book after line settled (is_settled page show
 else_settled keeping limit span id book after line settled (is_past_limit page least tried cut fewer says is same) m other = ap (λ (b : Book). slice_get b m) same
 else_settled keeping limit span id book after line settled (is_too_long page letters pushes tried least many says is same) m other =
     ap (λ (b : Book). slice_get b m) same
-else_settled keeping limit span id book after line settled (is_too_much page tried unkept says is same) m other = ap (λ (b : Book). slice_get b m) same
 
 -- ---- the record of a page
 

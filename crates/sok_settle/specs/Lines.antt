@@ -25,11 +25,6 @@ TellsLine line well old new (Err fault) = (fault ≡ tool.WriteFailed) × Append
 abbrev pub TellsFault : ℤ → ToolFault → Option (List ℕ) → Option (List ℕ) → Result Bool ToolFault → Type 0
 TellsFault id fault old new result = ((result ≡ Err tool.Memory) × Keeps old new) ⊎ TellsLine (fault_line id fault) false old new result
 
--- if the certificate of a level is too long, its line was written; any other fault of it ends the call
-abbrev pub TellsUnkept : ℤ → ToolFault → Option (List ℕ) → Option (List ℕ) → Result Bool ToolFault → Type 0
-TellsUnkept id tool.TooMuch old new result = TellsFault id tool.TooMuch old new result
-TellsUnkept id fault old new result = (result ≡ Err fault) × Keeps old new
-
 -- if a text does not spell letters, its line was written; want of memory ends the call without a line
 abbrev pub TellsUnread : ℤ → LurdFault → Option (List ℕ) → Option (List ℕ) → Result Bool ToolFault → Type 0
 TellsUnread id fault old new result =

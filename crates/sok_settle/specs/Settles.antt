@@ -84,8 +84,6 @@ pub data SettlesLevel (keeping : Keeping) (limit : ℕ) (span : Span) (id : ℤ)
   is_too_long : (page : Page) (letters : List Dir) (pushes : ℕ) → IsTried span id page book → IsLeastSolution page.level letters pushes
       → letter_limit < length letters → line ≡ fault_line id too_long → settled ≡ false → after ≡ book
       → SettlesLevel keeping limit span id book line settled after
-  is_too_much : (page : Page) → IsTried span id page book → keeping.refuses limit id page.level tool.TooMuch → line ≡ fault_line id tool.TooMuch
-      → settled ≡ false → after ≡ book → SettlesLevel keeping limit span id book line settled after
 
 -- the call ended at the level with an id: it is as it was, or a solution was offered
 abbrev pub EndsLevel : Span → ℤ → Book → Book → Type 0
@@ -97,7 +95,7 @@ EndsLevel span id book after =
 abbrev pub leave_of_level : Keeping → ℕ → Span → ℤ → Leave
 leave_of_level keeping limit span id = record {
   leaves = EndsLevel span id;
-  unwritten = λ book. (page : Page) × IsTried span id page book × keeping.refuses limit id page.level tool.WriteFailed;
+  unwritten = λ book. (page : Page) × IsTried span id page book × keeping.unwritten limit id page.level;
 }
 
 -- the levels come in order of their ids, which count from 1

@@ -25,7 +25,7 @@ pub trait Certs {
     // It certifies a claim about a level with these rows, with at most so many entries.
     ghost certifies: { Self.Taken → Rows → ℕ → Claim → Type 0 };
 
-    // Which certificates may be kept, and which refused.
+    // Which certificates may be kept, and for which levels one may fail to be written.
     ghost keeping: { Self → Keeping };
 
     // Whether certificates may be kept there at all.
@@ -54,8 +54,7 @@ pub trait Certs {
 
     /// Keeps the certificate of the level with an id.
     ///
-    /// Errors: `Memory`; `TooMuch` if it has more bytes than a certificate that is read may have;
-    /// `WriteFailed` if it can't be written.
+    /// Errors: `Memory`; `WriteFailed` if it can't be written.
     fn keep(
         &self,
         alloc: Global,

@@ -15,7 +15,7 @@ ghost use Rattle.sok_settle.specs.declared.settle.Span.{Span};
 ghost use Rattle.sok_settle.specs.Steps.{AreFewest, GoesBy, GoesThrough, IsRecordIn};
 
 use crate::certs::Certs;
-use crate::line::{limit_line, optimal_line, tell, tell_fault, tell_unkept, unsolvable_line};
+use crate::line::{limit_line, optimal_line, tell, tell_fault, unsolvable_line};
 use crate::settle::Span;
 use sok_book::fault::BookFault;
 use sok_book::offering::LETTER_LIMIT;
@@ -182,10 +182,8 @@ fn settle_solved<S: Alter, C: Certs, W: Write>(
         limit span id (state S.Store book.old) (state S.Store book.new)
         (W.contents out.old) (W.contents out.new) result }
 {
-    match certs.keep(alloc, id, &Claim::Pushes(pushes), taken) {
-        Ok(()) => set_optimal(book, id, level, dirs, pushes, out),
-        Err(fault) => tell_unkept(alloc, id, fault, out),
-    }
+    certs.keep(alloc, id, &Claim::Pushes(pushes), taken)?;
+    set_optimal(book, id, level, dirs, pushes, out)
 }
 
 /// Settles a level without a solution. The certificate is kept before the book changes.
@@ -206,10 +204,8 @@ fn settle_unsolvable<S: Alter, C: Certs, W: Write>(
         limit span id (state S.Store book.old) (state S.Store book.new)
         (W.contents out.old) (W.contents out.new) result }
 {
-    match certs.keep(alloc, id, &Claim::Unsolvable, taken) {
-        Ok(()) => set_unsolvable(book, id, level, out),
-        Err(fault) => tell_unkept(alloc, id, fault, out),
-    }
+    certs.keep(alloc, id, &Claim::Unsolvable, taken)?;
+    set_unsolvable(book, id, level, out)
 }
 
 /// Offers a solution with the fewest pushes, and sets the verdict `optimal`.

@@ -3,7 +3,7 @@
 ghost use Rattle.std.specs.Prelude.{◌≡◌, ◌++◌, IfOk, codes, string_bytes};
 ghost use Rattle.std.specs.Fmt.{signed_decimal};
 ghost use Rattle.sok_keep.specs.Offers.{offer_line};
-ghost use Rattle.sok_settle.specs.Lines.{TellsFault, TellsLine, TellsUnkept, fault_line};
+ghost use Rattle.sok_settle.specs.Lines.{TellsFault, TellsLine, fault_line};
 ghost use Rattle.sok_settle.specs.Settles.{limit_line, optimal_line, unsolvable_line};
 
 use arrayvec::ArrayString;
@@ -95,19 +95,4 @@ pub(crate) fn tell_fault<W: Write>(
     let line = fault_line(alloc, id, fault)?;
     write_whole(out, line.as_bytes())?;
     Ok(false)
-}
-
-/// Writes that the certificate of a level is too long. Any other fault of it ends the call.
-pub(crate) fn tell_unkept<W: Write>(
-    alloc: Global,
-    id: i64,
-    fault: ToolFault,
-    out: &mut W,
-) -> Result<bool, ToolFault>
-    ensures { TellsUnkept id fault (W.contents out.old) (W.contents out.new) result }
-{
-    match fault {
-        ToolFault::TooMuch => tell_fault(alloc, id, fault, out),
-        _ => Err(fault),
-    }
 }

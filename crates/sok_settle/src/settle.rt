@@ -39,8 +39,7 @@ pub struct Span {
 /// - `ID unsolvable`;
 /// - `ID limit S at least K`, if the search reached the limit and shows that no solution has fewer than K
 ///   pushes;
-/// - `ID fault 14 TooLong`, if the solution has more than 1,000,000 letters;
-/// - `ID fault 52 TooMuch`, if the certificate is refused as too long.
+/// - `ID fault 14 TooLong`, if the solution has more than 1,000,000 letters.
 ///
 /// Levels outside the span, or with a verdict, have no line and stay as they are. Returns status 0 if each
 /// level that was tried is settled, and 4 if one is not.
