@@ -1,7 +1,7 @@
-//! What is reported beside the answer of a command: what failed, which lines of the input are almost
-//! lines of a board or begin with no id, why a text has no level, and what the answer of `add`,
-//! `offers` or `settle` comes to. It is noted while the command runs and reported when it has ended;
-//! only how many levels `settle` has left is shown meanwhile.
+//! What is reported beside the answer of a command: what failed, which certificates are too long to
+//! be read, which lines of the input are almost lines of a board or begin with no id, why a text has
+//! no level, and what the answer of `add`, `offers` or `settle` comes to. It is noted while the command
+//! runs and reported when it has ended; only how many levels `settle` has left is shown meanwhile.
 
 use crate::foreign::Foreign;
 use crate::progress::Progress;
@@ -116,6 +116,9 @@ pub struct Notes {
     has_read: Cell<bool>,
     database: RefCell<Option<Changing>>,
     progress: Progress,
+    /// The first certificate that is longer than one that is read, and how many follow.
+    long: Cell<Option<Name>>,
+    more_long: Cell<u64>,
     /// Whether the answer has bytes.
     has_answered: Cell<bool>,
     /// Whether nobody reads the answer any more, as behind `| head`.
@@ -134,6 +137,8 @@ impl Notes {
             has_read: Cell::new(false),
             database: RefCell::new(None),
             progress: Progress::new(rt),
+            long: Cell::new(None),
+            more_long: Cell::new(0),
             has_answered: Cell::new(false),
             is_unread: Cell::new(false),
         }
@@ -194,6 +199,15 @@ impl Notes {
     pub fn fail(&self, name: Name, cause: Option<io::Error>) {
         if self.failure.get().is_none() {
             self.failure.set(Some(Failure { name, cause }));
+        }
+    }
+
+    /// Notes a certificate that is longer than one that is read.
+    pub fn add_long(&self, name: Name) {
+        if self.long.get().is_none() {
+            self.long.set(Some(name));
+        } else {
+            self.more_long.set(self.more_long.get().saturating_add(1));
         }
     }
 
@@ -272,8 +286,9 @@ impl Notes {
     }
 
     /// Writes what was noted: what failed, if the exit status is 5, that of a device; the level at
-    /// which it is 6, since memory was refused; the first ten of the noted lines, and how many more
-    /// there are; that no level was found; and what the answer comes to.
+    /// which it is 6, since memory was refused; certificates that are too long to be read; the first
+    /// ten of the noted lines, and how many more there are; that no level was found; and what the
+    /// answer comes to.
     pub fn tell<E: Write>(&self, status: u8, err: &mut E) {
         self.progress.clear();
         match (status, self.failure.get(), self.progress.level()) {
@@ -281,6 +296,7 @@ impl Notes {
             (6, _, Some(id)) => tell_line(format_args!("  level {id}"), err),
             _ => {}
         }
+        self.tell_long(err);
         if let Ok(near) = self.near.try_borrow() {
             tell_first(near.first(), near.count(), err);
         }
@@ -296,6 +312,21 @@ impl Notes {
             if let Some(changing) = &*database {
                 tell_summary(&changing.summary, err);
             }
+        }
+    }
+
+    /// Writes the first certificate that is longer than one that is read, and how many follow.
+    fn tell_long<E: Write>(&self, err: &mut E) {
+        if let Some(name) = self.long.get() {
+            let name = name.as_str();
+            tell_line(
+                format_args!("{name}: longer than check and prove read"),
+                err,
+            );
+        }
+        let more = self.more_long.get();
+        if more > 0 {
+            tell_line(format_args!("{more} more such files"), err);
         }
     }
 

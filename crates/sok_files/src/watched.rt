@@ -7,7 +7,9 @@ ghost use Rattle.sok_files.specs.Files.{with_makes};
 use crate::folder::Folder;
 use crate::notes::{Name, Notes, name_of};
 use crate::own::Own;
+use sok_engine::input::CERT_LIMIT;
 use std::alloc::Global;
+use std::cell::Cell;
 use std::io::{self, ErrorKind, Read, Write};
 
 /// A watched folder, or anything else that opens by paths.
@@ -150,13 +152,15 @@ impl<'a, R: Read> Read for WatchedInput<'a, R> {
 pub struct WatchedOutput<'a, W> {
     inner: W,
     name: Name,
-    /// Whether the answer of the command is written to it.
+    /// Whether the answer of the command is written to it. If not, it is a certificate.
     is_answer: bool,
+    /// How many bytes of a certificate were written.
+    length: Cell<usize>,
     notes: &'a Notes,
 }
 
 impl<'a, W> WatchedOutput<'a, W> {
-    /// Watches the file at a path.
+    /// Watches the file for a certificate at a path.
     pub fn new(inner: W, path: &str, notes: &'a Notes) -> WatchedOutput<'a, W>
         ensures { result.inner ≡ inner }
     {
@@ -164,6 +168,7 @@ impl<'a, W> WatchedOutput<'a, W> {
             inner,
             name: name_of(path),
             is_answer: false,
+            length: Cell::new(0),
             notes,
         }
     }
@@ -176,6 +181,7 @@ impl<'a, W> WatchedOutput<'a, W> {
             inner,
             name: name_of("standard output"),
             is_answer: true,
+            length: Cell::new(0),
             notes,
         }
     }
@@ -184,6 +190,18 @@ impl<'a, W> WatchedOutput<'a, W> {
     fn note(&self, bytes: &[u8]) {
         if self.is_answer {
             self.notes.answer(bytes);
+        } else {
+            self.count(bytes.len());
+        }
+    }
+
+    /// Notes the certificate once it is longer than one that is read.
+    fn count(&self, more: usize) {
+        let before = self.length.get();
+        let length = before.saturating_add(more);
+        self.length.set(length);
+        if before <= CERT_LIMIT && length > CERT_LIMIT {
+            self.notes.add_long(self.name);
         }
     }
 
