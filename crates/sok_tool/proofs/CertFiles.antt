@@ -27,4 +27,4 @@ module _ (files : Files Bytes) (db folder : List ℕ) (limit : ℕ) (id : ℤ) (
       subst (λ f. TellsKept {X = X} (keeping_in files db folder) limit id rows shown (Err f)) (sym is) tt
   TellsKept-text {X = X} path text (Err fault) path_is text_is (inr is) =
       subst (λ f. TellsKept {X = X} (keeping_in files db folder) limit id rows shown (Err f)) (sym is)
-      (record { shown = shown; entries = entries; certified = certified; refused = tt })
+      (shown, entries, certified)

@@ -1,5 +1,5 @@
 -- The certificates in files of the levels of a book that are settled.
-use Rattle.std.specs.Prelude.{ℕ, ℤ, ◌≡◌, ◌≢◌, ◌<◌, ◌⊎◌, List, Option, Some, None, IfSome, IsSomeAnd, length, ⊤}
+use Rattle.std.specs.Prelude.{ℕ, ℤ, ◌≡◌, ◌≢◌, ◌⊎◌, List, Option, Some, None, IfSome, IsSomeAnd}
 use Rattle.std.specs.Io.KnownBytes.{Appends}
 use Rattle.sok_rules.specs.Squares.{Rows}
 use Rattle.sok_cert.specs.Claim.{Claim}
@@ -9,7 +9,6 @@ use Rattle.sok_search.specs.Outcomes.{Certifies}
 use Rattle.sok_engine.specs.declared.fault.ToolFault.{ToolFault}
 use Rattle.sok_engine.specs.declared.fault.ToolFault.TheVariants as tool
 use Rattle.sok_engine.specs.Certified.{Bytes}
-use Rattle.sok_engine.specs.Limits.{cert_limit}
 use Rattle.sok_files.specs.Files.{Files, cert_path}
 use Rattle.sok_settle.specs.Keeping.{Keeping, no_certs}
 
@@ -26,21 +25,13 @@ pub record KeepsCert (files : Files Bytes) (db folder : List ℕ) (limit : ℕ) 
   pub certified : Certifies rows limit shown entries
   pub kept : KeepsText files db (cert_path folder id) (text_of shown entries)
 
--- why a text is refused: it is too long, or a file can't be made or written
-abbrev pub RefusesText : List ℕ → ToolFault → Type 0
-RefusesText text tool.TooMuch = cert_limit < length text
-RefusesText text fault = ⊤
-
--- a certificate was found, and its text is refused with this fault
-pub record RefusesCert (limit : ℕ) (id : ℤ) (rows : Rows) (fault : ToolFault) : Type 0 where
-  pub shown : Claim
-  pub entries : List Entry
-  pub certified : Certifies rows limit shown entries
-  pub refused : RefusesText (text_of shown entries) fault
+-- a certificate was found, with at most `limit` entries
+abbrev pub FindsCert : ℕ → ℤ → Rows → Type 0
+FindsCert limit id rows = (shown : Claim) × (entries : List Entry) × Certifies rows limit shown entries
 
 -- the certificates in the files of a folder, beside the database of their book
 abbrev pub keeping_in : Files Bytes → List ℕ → List ℕ → Keeping
-keeping_in files db folder = record { keeps = KeepsCert files db folder; refuses = RefusesCert }
+keeping_in files db folder = record { keeps = KeepsCert files db folder; unwritten = FindsCert }
 
 -- the same if a folder is given, and otherwise no certificates
 abbrev pub keeping_of : Files Bytes → List ℕ → Option (List ℕ) → Keeping

@@ -109,14 +109,14 @@ fn keep_same<F: Folder>(
     let Ok(mut there) = open(files, path) else {
         return Err(ToolFault::WriteFailed);
     };
-    match read_certificate(alloc, &mut there) {
-        Ok(bytes) if cert.is(bytes.as_slice()) => Ok(()),
-        Err(InputFault::Memory) => Err(ToolFault::Memory),
-        _ => {
-            files.note(path, "another certificate is in this file");
-            Err(ToolFault::WriteFailed)
-        }
-    }
+    let cause = match read_certificate(alloc, &mut there) {
+        Ok(bytes) if cert.is(bytes.as_slice()) => return Ok(()),
+        Err(InputFault::Memory) => return Err(ToolFault::Memory),
+        Err(InputFault::TooMuch) => "a certificate too long to be read is in this file",
+        _ => "another certificate is in this file",
+    };
+    files.note(path, cause);
+    Err(ToolFault::WriteFailed)
 }
 
 /// Writes a certificate to a file that is made for it. If it can't be written whole, the file is

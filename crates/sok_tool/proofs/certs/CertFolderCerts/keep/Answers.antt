@@ -11,5 +11,4 @@ returns g c rows limit (entries, took, certified) =
     let rt = c.args.self.now.files.now in
     TellsKept-text (files_by g.F.Output.Write.contents (g.F.Folder.files rt)) c.args.self.now.own.path.now folder limit c.args.id
     rows c.args.claim.now entries certified path c.in_ok-cert.cert c.keep_at.result
-    (of_passed (λ id. path ≡ cert_path folder id) c.args.id c.ranges.id (c.as_str.ensures.value ∙ c.in_ok-path.ensures)) (c.in_ok-cert.ensures entries took).0
-    c.keep_at.ensures
+    (of_passed (λ id. path ≡ cert_path folder id) c.args.id c.ranges.id (c.as_str.ensures.value ∙ c.in_ok-path.ensures)) (c.in_ok-cert.ensures entries took) c.keep_at.ensures
