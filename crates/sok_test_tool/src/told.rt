@@ -1,5 +1,6 @@
-//! What is reported beside an answer: what failed, lines that are almost lines of a board or begin
-//! with no id, why a text has no level, and what an answer comes to.
+//! What is reported beside an answer: what failed, certificates that are too long to be read, lines
+//! that are almost lines of a board or begin with no id, why a text has no level, and what an answer
+//! comes to.
 
 use crate::rows::{prepare, put, run_watched, words};
 use sok_files::notes::Notes;
@@ -7,7 +8,7 @@ use sok_files::watched::{Watched, WatchedOutput};
 use sok_sketch::tutorial::Row;
 use std::alloc::AllocError;
 use std::fs;
-use std::io::Write;
+use std::io::{self, Write};
 use std::test::Fail;
 
 const TOLD: [Row; 21] = [
@@ -202,5 +203,39 @@ fn what_is_reported_beside_an_answer(rt: HostRuntime) -> Result<(), Fail> {
     let full = b"fault 51 WriteFailed\n  standard output: write zero\n";
     assert_eq!(rt; told.as_slice(), full.as_slice());
     fs::remove_dir_all(&rt, "told")?;
+    Ok(())
+}
+
+/// Returns what is reported of certificates that were written.
+fn told_of(rt: &HostRuntime, notes: &Notes) -> Vec<u8> {
+    let mut err = Vec::new(rt.alloc());
+    notes.tell(0, &mut err);
+    err
+}
+
+/// Writes as many bytes as a certificate that is read may have.
+fn write_longest<W: Write>(out: &mut W) -> io::Result<()> {
+    let piece = [b'x'; 65_536];
+    for _ in 0..4096 {
+        out.write_all(&piece)?;
+    }
+    Ok(())
+}
+
+#[test]
+fn certificates_that_are_too_long_to_be_read(rt: HostRuntime) -> Result<(), Fail> {
+    let notes = Notes::new(rt);
+    let mut first = WatchedOutput::new(io::sink(), "kept/1.cert", &notes);
+    write_longest(&mut first)?;
+    assert_eq!(rt; told_of(&rt, &notes).as_slice(), b"".as_slice());
+    first.write_all(b"end")?;
+    first.write_all(b"\n")?;
+    let told = b"kept/1.cert: longer than check and prove read\n";
+    assert_eq!(rt; told_of(&rt, &notes).as_slice(), told.as_slice());
+    let mut next = WatchedOutput::new(io::sink(), "kept/2.cert", &notes);
+    write_longest(&mut next)?;
+    next.write_all(b"\n")?;
+    let told = b"kept/1.cert: longer than check and prove read\n1 more such files\n";
+    assert_eq!(rt; told_of(&rt, &notes).as_slice(), told.as_slice());
     Ok(())
 }

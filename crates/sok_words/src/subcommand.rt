@@ -188,10 +188,8 @@ only a solution with fewer pushes is looked for. Writes as soon as it is done:
                            has fewer than K pushes; nothing is kept
   ID fault 14 TooLong      the solution has more than 1,000,000 letters; nothing
                            is kept
-  ID fault 52 TooMuch      the certificate for --certs has more than 268,435,456
-                           bytes; nothing is kept
 The error stream sums up at the end: 172 optimal, 18 at their limit. The status
-is 4 if one of the last three lines is written, and 0 otherwise. In FOLDER a
+is 4 if one of the last two lines is written, and 0 otherwise. In FOLDER a
 whole certificate is never replaced by another: that is fault 51 WriteFailed,
 and the level stays as it was. Other faults are status 3, 5 or 6, and the lines
 written before them stay true.
