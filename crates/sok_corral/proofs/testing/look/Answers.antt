@@ -1,4 +1,4 @@
-use Rattle.std.proofs.Common.{All, Contains, List, ℕ, ◌<◌, arith, subst, below_more, get_or}
+use Rattle.std.proofs.Common.{All, Contains, List, ℕ, arith, subst, below_more, get_or}
 use Rattle.std.proofs.lemmas.List.{get_or_default}
 use Rattle.std.proofs.lemmas.List.Elements.{All-contains_itself}
 use Rattle.sok_rules.specs.declared.cell.Dir.{Dir}
