@@ -6,7 +6,7 @@ use Rattle.std.proofs.lemmas.List.Elements.{All-head, All-tail}
 use Rattle.std.specs.Char.{is_ascii_digit}
 use Rattle.std.specs.List.{AllPass}
 use Rattle.sok_text.specs.Counts.{starts_with_digit}
-use Rattle.sok_text.specs.Packed.{ReadsAs, Mark, is_mark, is_right, mark_text, marks_of, with_digit}
+use Rattle.sok_text.specs.Packed.{Mark, ReadsAs, is_mark, mark_text, marks_of, with_digit}
 use Rattle.sok_text.proofs.Lines.{behind_first, behind_first-cons}
 
 -- digits and another byte are a mark
@@ -45,26 +45,27 @@ marks_of-end left digits (c ∷ rest) some whole all empty = absurd (omega arith
 marks_of-end [] digits [] some whole all empty = absurd (omega arith)
 marks_of-end (c ∷ left) digits [] some whole all empty = marks_of-digits c left (subst (AllPass is_ascii_digit) (sym (whole ∙ append-nil digits)) all)
 
--- the byte of a right mark is no digit
-right-byte : (digits : List ℕ) (c : ℕ) → is_mark digits c ≡ true → is_ascii_digit c ≡ false
-right-byte digits c right = grind (arith, nat_tests)
+-- the byte of a mark is no digit
+mark-byte : (digits : List ℕ) (c : ℕ) → is_mark (record { digits = digits; byte = Some c }) ≡ true → is_ascii_digit c ≡ false
+mark-byte digits c is = grind (arith, nat_tests)
 
-marks_of-right : (digits : List ℕ) (byte : Option ℕ) (marks : List Mark) (rest : List ℕ) → AllPass is_ascii_digit digits
-    → is_right (record { digits = digits; byte = byte }) ≡ true → marks ≡ marks_of rest
+-- one more mark before those of a text
+marks_of-before : (digits : List ℕ) (byte : Option ℕ) (marks : List Mark) (rest : List ℕ) → AllPass is_ascii_digit digits
+    → is_mark (record { digits = digits; byte = byte }) ≡ true → marks ≡ marks_of rest
     → record { digits = digits; byte = byte } ∷ marks ≡ marks_of (mark_text (record { digits = digits; byte = byte }) ++ rest)
-marks_of-right digits None marks rest all right same = absurd (true≢false (sym right))
-marks_of-right digits (Some c) marks rest all right same =
+marks_of-before digits None marks rest all is same = absurd (true≢false (sym is))
+marks_of-before digits (Some c) marks rest all is same =
     ap (λ (ms : List Mark). record { digits = digits; byte = Some c } ∷ ms) same
-    ∙ sym (ap marks_of (append_assoc digits (c ∷ []) rest) ∙ marks_of-mark digits c rest all (right-byte digits c right))
+    ∙ sym (ap marks_of (append_assoc digits (c ∷ []) rest) ∙ marks_of-mark digits c rest all (mark-byte digits c is))
 
--- right marks are those of their text
-marks_of-texts : (marks : List Mark) → All (λ mark. AllPass is_ascii_digit mark.digits) marks → AllPass is_right marks → marks ≡ marks_of (flat_map mark_text marks)
-marks_of-texts [] digits right = refl
-marks_of-texts (mark ∷ marks) digits right =
+-- marks are those of their text
+marks_of-texts : (marks : List Mark) → All (λ mark. AllPass is_ascii_digit mark.digits) marks → AllPass is_mark marks → marks ≡ marks_of (flat_map mark_text marks)
+marks_of-texts [] digits are = refl
+marks_of-texts (mark ∷ marks) digits are =
     let D : Mark → Type 0 = λ m. AllPass is_ascii_digit m.digits in
-    let R : Mark → Type 0 = λ m. is_right m ≡ true in
-    marks_of-right mark.digits mark.byte marks (flat_map mark_text marks) (All-head D mark marks digits) (All-head R mark marks right)
-    (marks_of-texts marks (All-tail D mark marks digits) (All-tail R mark marks right))
+    let M : Mark → Type 0 = λ m. is_mark m ≡ true in
+    marks_of-before mark.digits mark.byte marks (flat_map mark_text marks) (All-head D mark marks digits) (All-head M mark marks are)
+    (marks_of-texts marks (All-tail D mark marks digits) (All-tail M mark marks are))
 
-pub read_one_way : (line : List ℕ) (marks : List Mark) → ReadsAs line marks → marks ≡ marks_of line
-read_one_way line marks are = marks_of-texts marks are.digits are.right ∙ ap marks_of (sym are.text)
+pub marks_are_one : (line : List ℕ) (marks : List Mark) → ReadsAs line marks → marks ≡ marks_of line
+marks_are_one line marks read = marks_of-texts marks read.digits read.are ∙ ap marks_of (sym read.text)

@@ -9,7 +9,7 @@ use Rattle.sok_text.specs.declared.kind.Kind.TheVariants.{Row, Packed, Note}
 use Rattle.sok_text.specs.Collections.{Part, Parts, blocks_from, blocks_of, onto_board, parts_behind, parts_of, rows_of, starts_with_row}
 use Rattle.sok_text.specs.Kinds.{kind_of, AreOf}
 use Rattle.sok_text.specs.Lines.{after_line, first_line, is_newline}
-use Rattle.sok_text.specs.Packed.{is_bar, is_packed_line, is_right, marks_of}
+use Rattle.sok_text.specs.Packed.{is_bar, is_packed_line, is_mark, marks_of}
 use Rattle.sok_text.specs.Plain.{TextsReadPlain, plain_onto, plain_parts, plain_rows}
 use Rattle.sok_text.specs.Xsb.{is_board_line}
 use Rattle.sok_text.proofs.Cutting.{kind-board}
@@ -60,8 +60,8 @@ and-none false = refl
 
 -- a line without bars is no packed line
 not_packed : (line : List ℕ) → HasNone line → is_packed_line line ≡ false
-not_packed line none = ap (λ b. (list_all is_right (marks_of line) && list_any (λ c. c == 35) line) && b) (none-any line none)
-    ∙ and-none (list_all is_right (marks_of line) && list_any (λ c. c == 35) line)
+not_packed line none = ap (λ b. (list_all is_mark (marks_of line) && list_any (λ c. c == 35) line) && b) (none-any line none)
+    ∙ and-none (list_all is_mark (marks_of line) && list_any (λ c. c == 35) line)
 
 kind-note : (line : List ℕ) → HasNone line → is_board_line line ≡ false → kind_of line ≡ Note
 kind-note line none other =

@@ -9,7 +9,7 @@ use Rattle.sok_text.specs.Characters.{code}
 use Rattle.sok_text.specs.Counts.{times}
 use Rattle.sok_text.specs.Xsb.{cell_of}
 
--- digits, of which there may be none, and the byte after them, which is missing at the end of a text that ends in digits
+-- Digits, of which there may be none, and the byte after them. At the end of a text that ends in digits there is no byte.
 pub record Mark : Type 0 where
   pub digits : List ℕ
   pub byte : Option ℕ
@@ -31,23 +31,20 @@ abbrev pub is_count : List ℕ → Bool
 is_count digits = nat_le (length digits) 3 && nat_le 1 (times digits) && nat_le (times digits) 128
 
 -- a bar that has no digits before it, or the character of a cell that has a count or no digits before it
-abbrev pub is_mark : List ℕ → ℕ → Bool
-is_mark digits c = if is_bar c then length digits == 0 else is_some (cell_of c) && is_count digits
-
-abbrev pub is_right : Mark → Bool
-is_right mark = option_map_or (is_mark mark.digits) mark.byte false
+abbrev pub is_mark : Mark → Bool
+is_mark mark = option_map_or (λ c. if is_bar c then length mark.digits == 0 else is_some (cell_of c) && is_count mark.digits) mark.byte false
 
 -- a line that has only such marks, with a wall and a bar among them
 abbrev pub is_packed_line : List ℕ → Bool
-is_packed_line line = list_all is_right (marks_of line) && list_any (λ c. c == code (codes "#")) line && list_any is_bar line
+is_packed_line line = list_all is_mark (marks_of line) && list_any (λ c. c == code (codes "#")) line && list_any is_bar line
 
 abbrev pub mark_text : Mark → List ℕ
 mark_text mark = mark.digits ++ option_map_or (λ c. c ∷ []) mark.byte []
 
--- a line is the text of these marks, all of which are right
+-- a line is the text of these marks
 pub record ReadsAs (line : List ℕ) (marks : List Mark) : Type 0 where
   pub digits : All (λ mark. AllPass is_ascii_digit mark.digits) marks
-  pub right : AllPass is_right marks
+  pub are : AllPass is_mark marks
   pub text : line ≡ flat_map mark_text marks
 
 -- the parts of a line with a character put before the first part

@@ -1,6 +1,6 @@
 //! Packed lines: a level's rows on one line, run-length encoded (Sokoban Wiki, "Level format").
 
-ghost use Rattle.std.specs.Prelude.{◌≡◌, ◌<◌, ◌↔◌, ◌∷◌, [], IfOk, IsTrue, List, length};
+ghost use Rattle.std.specs.Prelude.{ℕ, ◌≡◌, ◌<◌, ◌↔◌, ◌∷◌, [], IfOk, IsTrue, List, Some, length};
 ghost use Rattle.std.specs.List.{AllPass};
 ghost use Rattle.std.specs.Char.{is_ascii_digit};
 ghost use Rattle.std.specs.List.{list_all, list_any};
@@ -8,7 +8,7 @@ ghost use Rattle.sok_rules.specs.declared.cell.Cell.TheVariants as the;
 ghost use Rattle.sok_rules.specs.Levels.{cells_of, level_of};
 ghost use Rattle.sok_text.specs.Like.{IsLike};
 ghost use Rattle.sok_text.specs.Packed.{cells_of_part, parts_between, packed_rows};
-ghost use Rattle.sok_text.specs.Packed.{ReadsAs, Mark, is_bar, is_count, is_mark, is_packed_line, is_right, marks_of};
+ghost use Rattle.sok_text.specs.Packed.{Mark, ReadsAs, is_bar, is_count, is_mark, is_packed_line, marks_of};
 
 use crate::count::{cut_digits, times};
 use crate::xsb::{cell_of, has_wall};
@@ -17,18 +17,16 @@ use sok_rules::level::LIMIT;
 use std::alloc::{AllocError, Global};
 
 /// Returns whether a line, without its end, is packed: it has only XSB characters, bars and counts,
-/// and at least one wall and one bar. A line is read in one way.
-#[tactic(auto, using(crate::proofs::Marks::read_one_way))]
+/// and at least one wall and one bar.
 pub fn is_packed_line(line: &[u8]) -> bool
-    ensures packed { result ≡ is_packed_line line.now }
-    ensures read_one_way { (marks : List Mark) → ReadsAs line.now marks → marks ≡ marks_of line.now }
+    ensures { result ≡ is_packed_line line.now }
 {
     is_encoded(line) && has_wall(line) && has_bar(line)
 }
 
 /// Returns whether a line has only bars, and XSB characters with or without a count.
 fn is_encoded(line: &[u8]) -> bool
-    ensures { result ≡ list_all is_right (marks_of line.now) }
+    ensures { result ≡ list_all is_mark (marks_of line.now) }
 {
     let mut left = line;
     while !left.is_empty() {
@@ -48,7 +46,7 @@ fn is_encoded(line: &[u8]) -> bool
 /// count or no digits before it.
 fn is_mark(digits: &[u8], byte: u8) -> bool
     requires { AllPass is_ascii_digit digits.now }
-    ensures { result ≡ is_mark digits.now byte }
+    ensures { result ≡ is_mark (record { digits = digits.now; byte = Some byte }) }
 {
     if byte == b'|' {
         digits.is_empty()
@@ -140,3 +138,9 @@ fn is_floor(cell: Cell) -> bool
         _ => false,
     }
 }
+
+/// A packed line is cut into marks in one way.
+#[tactic(auto, using(crate::proofs::Marks::marks_are_one))]
+pub fn packed_lines_have_one_reading()
+    ensures { (line : List ℕ) (marks : List Mark) → ReadsAs line marks → marks ≡ marks_of line }
+{}
