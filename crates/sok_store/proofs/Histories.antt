@@ -1,17 +1,20 @@
 -- Calls, one after another, fold the commands that they accept.
-use Rattle.std.proofs.Common.{inl, inr, refl, subst, arith, Result, Ok, Err, OnOk}
+use Rattle.std.proofs.Common.{◌≡◌, ◌⊎◌, inl, inr, refl, subst, arith, Result, Ok, Err, IfErr, IfOk, IsNone, OnOk}
 use Rattle.sqlite.specs.State.{State, HasCleanDisk}
 use Rattle.sok_book.specs.declared.fault.BookFault.{BookFault}
-use Rattle.sok_book.specs.Books.{Book, IsTrueBook}
+use Rattle.sok_book.specs.declared.fault.BookFault.TheVariants.{NoLevel}
+use Rattle.sok_book.specs.Books.{Book, IsTrueBook, page_at}
 use Rattle.sok_book.specs.Commands.{OneCommand, add, judge, offer, prove}
 use Rattle.sok_book.specs.Laws as laws
 use Rattle.sok_book.proofs.Laws.{CommandsKeepTruth-all}
+use Rattle.sok_book.specs.Records.{AreRecordsOf, IsRecordAt}
+use Rattle.sok_store.specs.Faults.{IsOutside}
 use Rattle.sok_store.specs.Rows.{HoldsBook}
-use Rattle.sok_store.specs.Calls.{id_number}
-use Rattle.sok_store.specs.Histories.{AddsAreCalls, AreCalls, CallsFold, EmptyBooksAreMade, IsCall, IsMadeOf, VerdictsAreCalls, OffersAreCalls, ProofsAreCalls, TellingsAreCalls}
+use Rattle.sok_store.specs.Calls.{FindsBook, KeepsBook, MakesNone, Stops, id_number}
+use Rattle.sok_store.specs.Histories.{AddsAreCalls, AreCalls, CallsFold, EmptyBooksAreMade, GetsAreCalls, IsCall, ListsAreCalls, IsMadeOf, VerdictsAreCalls, OffersAreCalls, ProofsAreCalls, TellingsAreCalls}
 use Rattle.sok_store.specs.Histories as histories
 use Rattle.sok_store.specs.Running.{Runs}
-use Rattle.sok_store.proofs.Calls.{held}
+use Rattle.sok_store.proofs.Calls.{finds_keeps, held, keeps_turns}
 
 -- ---- one call
 
@@ -26,6 +29,18 @@ is_call old new Makes MayMake Refuses (Ok x) commands runs = record {
 is_call old new Makes MayMake Refuses (Err fault) commands runs = record {
   clean = λ clean. omega (arith, clean, runs.stop.clean);
   turns = λ clean book holds. let (why, after) = runs.refused clean book holds in (book, inl refl, after);
+}
+
+-- one that reads
+look_is_call : {X : Type 0} (old new : State) (Tells : X → Book → Type 0) (Keeps : BookFault → Book → Type 0) (result : Result X BookFault)
+    → IfOk result (λ x. FindsBook old new (Tells x)) → IfErr result (λ fault. KeepsBook old new (Keeps fault)) → Stops old new MakesNone → IsCall old new
+look_is_call old new Tells Keeps (Ok x) found kept stop = record {
+  clean = λ clean. omega (arith, clean, stop.clean);
+  turns = keeps_turns (λ book after. (after ≡ book) ⊎ OneCommand book after) (λ book _. inl refl) (finds_keeps old new (Tells x) found);
+}
+look_is_call old new Tells Keeps (Err fault) found kept stop = record {
+  clean = λ clean. omega (arith, clean, stop.clean);
+  turns = keeps_turns (λ book after. (after ≡ book) ⊎ OneCommand book after) (λ book _. inl refl) kept;
 }
 
 module _ {C : Type 0} (shows : C → State) where
@@ -53,6 +68,14 @@ module _ {C : Type 0} (shows : C → State) where
   verdicts-are-calls old new id rows claim (Ok x) runs =
       is_call (shows old) (shows new) _ _ _ (Ok x) (λ x book after sets. judge id claim sets) runs
   verdicts-are-calls old new id rows claim (Err fault) runs = is_call (shows old) (shows new) _ _ _ (Err fault) tt runs
+
+  pub gets-are-calls : GetsAreCalls shows
+  gets-are-calls old new id result found refused stop = look_is_call (shows old) (shows new) (λ kept book. IsRecordAt book id kept)
+      (λ fault book. IsOutside fault ⊎ ((fault ≡ NoLevel) × IsNone (page_at book id))) result found refused stop
+
+  pub lists-are-calls : ListsAreCalls shows
+  lists-are-calls old new result listed refused stop =
+      look_is_call (shows old) (shows new) (λ pages book. AreRecordsOf book pages) (λ fault _. IsOutside fault) result listed refused stop
 
   -- one after another
   folds : (old new : C) → AreCalls shows old new → HasCleanDisk (shows new) → (book : Book) → HoldsBook (shows old) book

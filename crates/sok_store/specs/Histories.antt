@@ -1,17 +1,20 @@
 -- What a list of calls, some of them refused, makes of the book that a connection holds.
-use Rattle.std.specs.Prelude.{ℕ, ℤ, ◌≡◌, ◌⊎◌, List, [], Option, Result, OnOk}
+use Rattle.std.specs.Prelude.{ℕ, ℤ, ◌≡◌, ◌⊎◌, List, [], Option, Result, IfErr, IfOk, IsNone, OnOk}
 use Rattle.sqlite.specs.State.{State, HasCleanDisk}
 use Rattle.sok_rules.specs.declared.cell.Dir.{Dir}
 use Rattle.sok_rules.specs.Squares.{Rows}
 use Rattle.sok_board.specs.Refusals.{IsAcceptable}
 use Rattle.sok_cert.specs.Claim.{Claim}
 use Rattle.sok_book.specs.declared.fault.BookFault.{BookFault}
+use Rattle.sok_book.specs.declared.fault.BookFault.TheVariants.{NoLevel}
 use Rattle.sok_book.specs.declared.record.Offer.{Offer}
-use Rattle.sok_book.specs.Books.{Book, IsTrueBook}
+use Rattle.sok_book.specs.Books.{Book, IsTrueBook, PageWithId, page_at}
 use Rattle.sok_book.specs.Commands.{OneCommand}
 use Rattle.sok_book.specs.Laws.{IsMade}
+use Rattle.sok_book.specs.Records.{AreRecordsOf, IsRecordAt}
+use Rattle.sok_store.specs.Faults.{IsOutside}
 use Rattle.sok_store.specs.Rows.{HoldsBook}
-use Rattle.sok_store.specs.Calls.{ChangesBook}
+use Rattle.sok_store.specs.Calls.{ChangesBook, FindsBook, KeepsBook, KeepsRefused, MakesNone, Stops}
 use Rattle.sok_store.specs.Running.{RunsAdding, RunsVerdict, RunsOffering, RunsProving, RunsTelling}
 use Rattle.sok_store.specs.declared.standing.Standing.{Standing}
 
@@ -54,6 +57,19 @@ ProofsAreCalls {C} shows =
 abbrev pub VerdictsAreCalls : {C : Type 0} → (C → State) → Type 0
 VerdictsAreCalls {C} shows =
     (old new : C) (id : ℕ) (rows : Rows) (claim : Claim) (result : Result (Unit {0}) BookFault) → RunsVerdict (shows old) (shows new) id rows claim result
+    → IsCall (shows old) (shows new)
+
+-- and so is one that reads: it keeps the book
+abbrev pub GetsAreCalls : {C : Type 0} → (C → State) → Type 0
+GetsAreCalls {C} shows =
+    (old new : C) (id : ℕ) (result : Result PageWithId BookFault) → IfOk result (λ kept. FindsBook (shows old) (shows new) (λ book. IsRecordAt book id kept))
+    → IfErr result (KeepsRefused (shows old) (shows new) (λ book fault. (fault ≡ NoLevel) × IsNone (page_at book id)))
+    → Stops (shows old) (shows new) MakesNone → IsCall (shows old) (shows new)
+
+abbrev pub ListsAreCalls : {C : Type 0} → (C → State) → Type 0
+ListsAreCalls {C} shows =
+    (old new : C) (result : Result (List PageWithId) BookFault) → IfOk result (λ pages. FindsBook (shows old) (shows new) (λ book. AreRecordsOf book pages))
+    → IfErr result (λ fault. KeepsBook (shows old) (shows new) (λ _. IsOutside fault)) → Stops (shows old) (shows new) MakesNone
     → IsCall (shows old) (shows new)
 
 -- after calls the connection holds what the accepted ones made of the book before; if that book was true, so is this one

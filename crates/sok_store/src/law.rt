@@ -2,7 +2,7 @@
 
 ghost use Rattle.sqlite.specs.Held.{state};
 ghost use Rattle.sok_store.specs.Histories.{AddsAreCalls, OffersAreCalls, ProofsAreCalls};
-ghost use Rattle.sok_store.specs.Histories.{CallsFold, EmptyBooksAreMade};
+ghost use Rattle.sok_store.specs.Histories.{CallsFold, EmptyBooksAreMade, GetsAreCalls, ListsAreCalls};
 ghost use Rattle.sok_store.specs.Histories.{TellingsAreCalls, VerdictsAreCalls};
 ghost use Rattle.sok_store.specs.Laws.{BadRowsHaveNoBook, OneRowIsFirstBad, RowsHaveOneBook};
 ghost use Rattle.sok_store.specs.Laws.{RowsHaveOnePage, RowsKeptBeforeAreKept};
@@ -10,16 +10,18 @@ ghost use Rattle.sok_store.specs.Laws.{RowsHaveOnePage, RowsKeptBeforeAreKept};
 use sqlite::Alter;
 
 /// A book over a connection is the fold of its accepted commands. Start from any book that the
-/// connection holds, and make any list of calls of `add`, `offer`, `offer_with_best`, `prove` and
-/// `set_verdict`, some of which may be refused. Afterwards the connection holds the book that the
-/// accepted calls make of it, one after another. A true book stays true. From an empty database,
-/// the book is one that commands made.
+/// connection holds, and make any list of calls of `add`, `offer`, `offer_with_best`, `prove`,
+/// `set_verdict`, `get` and `list`, some of which may be refused. Afterwards the connection holds
+/// the book that the accepted commands make of it, one after another; `get` and `list` keep it. A
+/// true book stays true. From an empty database, the book is one that commands made.
 pub fn calls_are_folded<S: Alter>()
     ensures adds { AddsAreCalls (state S.Store) }
     ensures offers { OffersAreCalls (state S.Store) }
     ensures tellings { TellingsAreCalls (state S.Store) }
     ensures proofs { ProofsAreCalls (state S.Store) }
     ensures verdicts { VerdictsAreCalls (state S.Store) }
+    ensures gets { GetsAreCalls (state S.Store) }
+    ensures lists { ListsAreCalls (state S.Store) }
     ensures folded { CallsFold (state S.Store) }
     ensures made { EmptyBooksAreMade }
 {}

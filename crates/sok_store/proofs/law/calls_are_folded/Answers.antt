@@ -1,5 +1,5 @@
 use Rattle.sqlite.specs.Held.{state}
-use Rattle.sok_store.proofs.Histories.{adds-are-calls, calls-fold, empty-books-are-made, verdicts-are-calls, offers-are-calls, proofs-are-calls, tellings-are-calls}
+use Rattle.sok_store.proofs.Histories.{adds-are-calls, calls-fold, empty-books-are-made, gets-are-calls, lists-are-calls, verdicts-are-calls, offers-are-calls, proofs-are-calls, tellings-are-calls}
 use Rattle.sok_store.proofs.law.calls_are_folded.Goals as goal
 
 pub returns-clause-adds : goal.returns-clause-adds
@@ -16,6 +16,12 @@ returns-clause-proofs g c = proofs-are-calls (state g.S.Store)
 
 pub returns-clause-verdicts : goal.returns-clause-verdicts
 returns-clause-verdicts g c = verdicts-are-calls (state g.S.Store)
+
+pub returns-clause-gets : goal.returns-clause-gets
+returns-clause-gets g c = gets-are-calls (state g.S.Store)
+
+pub returns-clause-lists : goal.returns-clause-lists
+returns-clause-lists g c = lists-are-calls (state g.S.Store)
 
 pub returns-clause-folded : goal.returns-clause-folded
 returns-clause-folded g c = calls-fold (state g.S.Store)
