@@ -7,9 +7,11 @@
 //! | `fault` | why there is no answer |
 //! | `input` | how long inputs may be, and reading all of one |
 //! | `output` | writing all of a text |
+//! | `serving` | an engine that answers an input, and serving one |
 #![tactic(auto)]
 
 pub mod answer;
 pub mod fault;
 pub mod input;
 pub mod output;
+pub mod serving;

@@ -1,12 +1,12 @@
 -- What an output holds after a call that opens a file and solves a level of it, with a certificate in another file or without one.
-use Rattle.std.specs.Prelude.{ℕ, ◌≡◌, ◌≢◌, ◌⊎◌, Bool, List, Option, Some, None, Result, Err}
+use Rattle.std.specs.Prelude.{ℕ, ◌≡◌, ◌≢◌, ◌⊎◌, List, Option, Some, None, Result, Err}
 use Rattle.sok_engine.specs.declared.fault.ToolFault.{ToolFault}
 use Rattle.sok_engine.specs.declared.fault.ToolFault.TheVariants as tool
 use Rattle.sok_engine.specs.Certified.{Bytes, CertifiedAnswers, Stays, WritesBoth}
 use Rattle.sok_engine.specs.Inputs.{Within}
 use Rattle.sok_engine.specs.Limits.{input_limit}
-use Rattle.sok_engine.specs.Written.{Answers, Writes}
-use Rattle.sok_solve.specs.Improves.{IsCertifiedImprove, IsImprove, up_to_claim}
+use Rattle.sok_engine.specs.Written.{Writes}
+use Rattle.sok_solve.specs.declared.task.Task.{Task}
 use Rattle.sok_solve.specs.Solves.{IsFind, IsSolve}
 use Rattle.sok_files.specs.Files.{OfFile}
 
@@ -18,20 +18,9 @@ IsUnbegun result = (result ≡ Err tool.Memory) ⊎ (result ≡ Err tool.ReadFai
 abbrev pub SolvesTo : CertifiedAnswers → (Bytes → Type 0) → Bytes → Result ℕ ToolFault → Type 0
 SolvesTo P IsPlace out result = (IsUnbegun result × Stays out) ⊎ ((cert : Bytes) × IsPlace cert × WritesBoth P cert out result)
 
--- a level is solved without a certificate: with the fewest pushes, or with fewer than a number that is given
-abbrev pub FindsBelow : ℕ → Option ℕ → ℕ → Bool → List ℕ → Answers
-FindsBelow n None limit bound = IsFind n limit bound
-FindsBelow n (Some best) limit bound = IsImprove n limit (up_to_claim best) bound
-
--- the same with a certificate
-abbrev pub SolvesBelow : ℕ → Option ℕ → ℕ → Bool → List ℕ → CertifiedAnswers
-SolvesBelow n None limit bound = IsSolve n limit bound
-SolvesBelow n (Some best) limit bound = IsCertifiedImprove n limit (up_to_claim best) bound
-
--- A level of a file is solved within a limit: with fewer pushes than `below`, if that is given. With `bound`, an answer at the limit has a lower bound. If a
--- path is given, which is another one than the file's, the certificate goes to the file that is made there. Otherwise there is no certificate.
-abbrev pub SolvesLevel : List ℕ → (Option (List ℕ) → Type 0) → (List ℕ → Bytes → Type 0) → ℕ → Option ℕ → ℕ → Bool → Option (List ℕ) → Bytes → Result ℕ ToolFault
-    → Type 0
-SolvesLevel file reads makes n below limit bound (Some path) out result =
-    SolvesTo (OfFile reads (Within input_limit (SolvesBelow n below limit bound))) (λ cert. (file ≢ path) × makes path cert) out result
-SolvesLevel file reads makes n below limit bound None out result = Writes (OfFile reads (Within input_limit (FindsBelow n below limit bound))) out.old out.new result
+-- A level of a file is solved. If a path is given, which is another one than the file's, the certificate goes to the file that is made there. Otherwise there is
+-- no certificate.
+abbrev pub SolvesLevel : List ℕ → (Option (List ℕ) → Type 0) → (List ℕ → Bytes → Type 0) → Task → Option (List ℕ) → Bytes → Result ℕ ToolFault → Type 0
+SolvesLevel file reads makes task (Some path) out result =
+    SolvesTo (OfFile reads (Within input_limit (IsSolve task))) (λ cert. (file ≢ path) × makes path cert) out result
+SolvesLevel file reads makes task None out result = Writes (OfFile reads (Within input_limit (IsFind task))) out.old out.new result

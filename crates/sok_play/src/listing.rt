@@ -1,7 +1,7 @@
 //! Listing the levels of a collection.
 
 ghost use Rattle.std.specs.Prelude.{◌≡◌, ◌≢◌, ◌++◌, ℕ, List, Option, Ok, Err, IfOk};
-ghost use Rattle.std.specs.Prelude.{MatchResult, OnOk, codes, option_map, string_bytes};
+ghost use Rattle.std.specs.Prelude.{OnOk, codes, option_map, string_bytes};
 ghost use Rattle.std.specs.Fmt.{decimal};
 ghost use Rattle.sok_rules.specs.declared.fault.LevelFault.TheVariants as level;
 ghost use Rattle.sok_text.specs.Collections.{level_at};
@@ -10,13 +10,12 @@ ghost use Rattle.sok_book.specs.Overview.{title_words};
 ghost use Rattle.sok_engine.specs.Inputs.{OfReader, Within};
 ghost use Rattle.sok_engine.specs.Limits.{input_limit};
 ghost use Rattle.sok_engine.specs.Written.{HasOne, Writes};
-ghost use Rattle.sok_engine.specs.declared.fault.ToolFault.TheVariants as tool;
 ghost use Rattle.sok_play.specs.Listing.{IsListing, level_line, level_numbers, lines_from};
 
 use crate::measure::{boxes, goals, height, width};
 use sok_engine::answer::Answer;
 use sok_engine::fault::ToolFault;
-use sok_engine::input::read_input;
+use sok_engine::serving::{Engine, serve};
 use sok_rules::fault::{LevelFault, Memory};
 use sok_rules::level::Level;
 use sok_text::collection::Collection;
@@ -39,20 +38,21 @@ pub fn list_bytes<R: Read, W: Write>(
     ensures { Writes (OfReader (R.remaining input.old) (Within input_limit IsListing))
         (W.contents out.old) (W.contents out.new) result }
 {
-    let bytes = read_input(alloc, input)?;
-    let answer = listed(alloc, bytes.as_slice())?;
-    answer.write(out)
+    serve(alloc, &Listing, input, out)
 }
 
-/// Returns the answer to a collection.
-fn listed(alloc: Global, bytes: &[u8]) -> Result<Answer, ToolFault>
-    ensures { MatchResult result
-        (λ answer. IsListing bytes.now (Ok answer))
-        (λ fault. fault ≡ tool.Memory) }
-{
-    let collection = Collection::read(alloc, bytes)?;
-    let text = lines(alloc, &collection)?;
-    Ok(Answer::new(text, 0))
+/// Lists the levels of a collection.
+#[derive(Clone, Copy)]
+pub struct Listing;
+
+impl Engine for Listing {
+    ghost answers = { λ _. IsListing };
+
+    fn answer(&self, alloc: Global, input: &[u8]) -> Result<Answer, ToolFault> {
+        let collection = Collection::read(alloc, input)?;
+        let text = lines(alloc, &collection)?;
+        Ok(Answer::new(text, 0))
+    }
 }
 
 /// Returns the lines of all levels.

@@ -3,12 +3,12 @@
 ghost use Rattle.std.specs.Prelude.{◌≡◌, ℕ, List, IfOk, string_bytes};
 ghost use Rattle.sok_engine.specs.Inputs.{OfReader, Within};
 ghost use Rattle.sok_engine.specs.Limits.{input_limit};
-ghost use Rattle.sok_engine.specs.Written.{Gives, HasOne, Writes};
+ghost use Rattle.sok_engine.specs.Written.{HasOne, Writes};
 ghost use Rattle.sok_play.specs.Plays.{IsPlay, IsReplay, outcome_status, outcome_word, tally_line};
 
 use sok_engine::answer::Answer;
 use sok_engine::fault::ToolFault;
-use sok_engine::input::read_input;
+use sok_engine::serving::{Engine, serve};
 use sok_rules::play::{Tally, replay};
 use sok_text::collection::Collection;
 use sok_text::line::cut_line;
@@ -27,9 +27,7 @@ pub fn play_bytes<R: Read, W: Write>(
     ensures { Writes (OfReader (R.remaining input.old) (Within input_limit IsPlay))
         (W.contents out.old) (W.contents out.new) result }
 {
-    let bytes = read_input(alloc, input)?;
-    let answer = played(alloc, bytes.as_slice())?;
-    answer.write(out)
+    serve(alloc, &Play, input, out)
 }
 
 /// Plays a text of letters on the n-th level of a collection, counted from 1. Writes the line
@@ -49,28 +47,39 @@ pub fn replay_bytes<R: Read, W: Write>(
     ensures { Writes (OfReader (R.remaining input.old) (Within input_limit (IsReplay n text.now)))
         (W.contents out.old) (W.contents out.new) result }
 {
-    let bytes = read_input(alloc, input)?;
-    let answer = replayed(alloc, bytes.as_slice(), n, text)?;
-    answer.write(out)
+    serve(alloc, &Replay { n, text }, input, out)
 }
 
-/// Returns the answer to a text that is followed by a collection.
-fn played(alloc: Global, input: &[u8]) -> Result<Answer, ToolFault>
-    ensures { Gives (IsPlay input.now) result }
-{
-    let (text, collection) = cut_line(input);
-    replayed(alloc, collection, 1, text)
+/// Plays a text on the first level of the collection that follows it.
+#[derive(Clone, Copy)]
+struct Play;
+
+impl Engine for Play {
+    ghost answers = { λ _. IsPlay };
+
+    fn answer(&self, alloc: Global, input: &[u8]) -> Result<Answer, ToolFault> {
+        let (text, collection) = cut_line(input);
+        Replay { n: 1, text }.answer(alloc, collection)
+    }
 }
 
-/// Returns the answer to a text on a level of a collection.
-fn replayed(alloc: Global, collection: &[u8], n: usize, text: &[u8]) -> Result<Answer, ToolFault>
-    ensures { Gives (IsReplay n text.now collection.now) result }
-{
-    let level = Collection::read(alloc, collection)?.level(alloc, n)?;
-    let letters = read_lurd(alloc, text)?;
-    let tally = replay(alloc, &level, letters.as_slice())?;
-    let line = tally_line(alloc, tally)?;
-    Ok(Answer::new(line.into_bytes(), outcome_status(tally.solved)))
+/// Plays a text of letters on the n-th level of a collection, counted from 1.
+#[derive(Clone, Copy)]
+pub struct Replay<'a> {
+    pub n: usize,
+    pub text: &'a [u8],
+}
+
+impl Engine for Replay<'_> {
+    ghost answers = { λ replay. IsReplay replay.n replay.text.now };
+
+    fn answer(&self, alloc: Global, input: &[u8]) -> Result<Answer, ToolFault> {
+        let level = Collection::read(alloc, input)?.level(alloc, self.n)?;
+        let letters = read_lurd(alloc, self.text)?;
+        let tally = replay(alloc, &level, letters.as_slice())?;
+        let line = tally_line(alloc, tally)?;
+        Ok(Answer::new(line.into_bytes(), outcome_status(tally.solved)))
+    }
 }
 
 /// Returns the line of a tally.

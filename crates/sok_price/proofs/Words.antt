@@ -19,13 +19,14 @@ pub use Rattle.std.proofs.{lemmas.Map.Steps.length-le_from_distinct_below, lemma
 pub use Rattle.std.specs.{Cmp.both_ways, List.SwappedAt, List.range_with_len, List.Sorted.IsPermutation, List.Sorted.IsStrictlyIncreasing, Option.IsSomeAnd}
 pub use Rattle.std.specs.{Option.option_and_then, Option.option_map_or}
 pub use Rattle.sok_rules.proofs.{Moved.moved-come, Moved.moved-left, Moved.moved-other, Spots.same_spot-is, Spots.same_spot-refl, Steps.IsPush, Steps.push_step}
-pub use Rattle.sok_rules.proofs.{Steps.walk_step, Walking.boxes-Same}
-pub use Rattle.sok_rules.specs.Play.{After, AllOnGoals, Position, SolvesFrom, moved, one_if, pushes, run, step}
-pub use Rattle.sok_rules.specs.{Squares.holds, Squares.is_goal, Squares.next, Squares.same_spot, States.Same, declared.cell.Dir.Dir, declared.cell.Spot.Spot}
-pub use Rattle.sok_board.proofs.{Accepted.decoration-outside, AreaLaws.InArea-next, AreaLaws.InArea-spot_of, AreaLaws.same_number, Confined.confines-play}
+pub use Rattle.sok_rules.proofs.{Steps.walk_step, Walking.Same-refl, Walking.boxes-Same}
+pub use Rattle.sok_rules.specs.Play.{After, AllOnGoals, Position, SolvesFrom, moved, one_if, pushes, run, start, step}
+pub use Rattle.sok_rules.specs.{Squares.holds, Squares.is_box, Squares.is_goal, Squares.next, Squares.same_spot, States.Same, declared.cell.Dir.Dir, declared.cell.Spot.Spot}
+pub use Rattle.sok_board.proofs.{Accepted.decoration-outside, AreaLaws.InArea-next, AreaLaws.InArea-spot_of, AreaLaws.number-InArea, AreaLaws.same_number, Confined.confines-play}
 pub use Rattle.sok_board.proofs.{Lists.AllPairs-head, Lists.AllPairs-tail, Lists.Contains-filter, Lists.Contains-from_filter, Numbering.Contains-goals_of}
 pub use Rattle.sok_board.proofs.{Numbering.below-chosen, Numbering.filter-range_more, Numbering.rising-chosen, Positions.among_numbers}
-pub use Rattle.sok_board.specs.Area.{InArea, IsArea, BoardView, goals_of, is_among, is_decoration, position_of, spot_of}
+pub use Rattle.sok_board.proofs.Positions.{known_box, position_of-start}
+pub use Rattle.sok_board.specs.Area.{InArea, IsArea, BoardView, boxes_of, goals_of, is_among, is_decoration, position_of, spot_of}
 pub use Rattle.sok_board.specs.{BoxSets.IsMoved, Limits.square_limit}
 pub use Rattle.sok_distance.proofs.{PushingLaws.lone_push-push}
 pub use Rattle.sok_distance.specs.{Distances.goal_at, Pushing.Chain, Pushing.TellsDistance, Pushing.lone_push, Pushing.lone_pushes}

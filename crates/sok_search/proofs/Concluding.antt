@@ -5,8 +5,9 @@ use Rattle.sok_rules.specs.declared.cell.Dir.{Dir}
 use Rattle.sok_rules.specs.Play.{AtLeast}
 use Rattle.sok_rules.specs.States.{MoreStatesThan}
 use Rattle.sok_rules.specs.Squares.{Rows}
-use Rattle.sok_board.specs.Area.{BoardView, IsAccepted}
+use Rattle.sok_board.specs.Area.{BoardView, IsAccepted, boxes_of}
 use Rattle.sok_board.proofs.OneRefusal.{IsAccepted-one}
+use Rattle.sok_price.specs.Prices.{Priced}
 use Rattle.sok_cert.specs.Claim.{Claim}
 use Rattle.sok_cert.specs.Claim.TheVariants as claim
 use Rattle.sok_cert.specs.Certificate.{Certificate}
@@ -16,23 +17,18 @@ use Rattle.sok_state.specs.declared.push.Push.{Push}
 use Rattle.sok_cert.specs.Closed.{IsClosed, IsTrueOf}
 use Rattle.sok_search.specs.declared.finding.Finding.{Finding}
 use Rattle.sok_search.specs.declared.finding.Finding.TheVariants as finding
-use Rattle.sok_search.specs.Findings.{HasSearchedAlone, IsFewer, IsFinding, IsFindingWithProof, claim_of, found_of, improved_of}
+use Rattle.sok_search.specs.Findings.{IsFewer, IsFinding, IsFindingWithProof, claim_of, found_of, improved_of}
 use Rattle.sok_search.specs.Finished.{AreFirstEntries, AreTaken, IsOfBest}
 use Rattle.sok_search.specs.Halted.{IsLeastOpen, IsOpenAt}
 use Rattle.sok_search.specs.Limits.{state_limit}
-use Rattle.sok_search.specs.Outcomes.{Certifies, OfClaim, HasSearched, IsCutShortBeside, IsFoundWithProof, IsFoundWithin, IsImproved, IsImprovedWithProof, IsLeastSolution, IsProvedSolved, ShowsLeast}
+use Rattle.sok_search.specs.Outcomes.{Certifies, OfClaim, IsCutShort, IsFoundWithProof, IsFoundWithin, IsImproved, IsImprovedWithProof, IsLeastSolution, IsProvedSolved, ShowsLeast}
 use Rattle.sok_search.specs.Searches.{Progress, IsBeaten, IsSearch}
 use Rattle.sok_search.specs.Walkthroughs.{IsSolvedAt, IsSolvedWith, IsSolvedWithin, IsSolvingTrace, TracesBack}
 use Rattle.sok_search.proofs.Certified.{beaten-at_most, done-finished, done-least}
 use Rattle.sok_search.proofs.Finishing.{entries-closed}
+use Rattle.sok_search.proofs.Halting.{least-covers}
 use Rattle.sok_search.proofs.StatesByIndex.{key-within, noted-at}
 use Rattle.sok_search.proofs.Shown.{shows}
-
--- a search that has come to its end
-pub searched : (b : BoardView) (limit : ℕ) (p : Progress) (best : Option ℕ) → IsSearch b limit p → p.queue ≡ [] → p.best ≡ best
-    → p.frame.aim.upper ≡ None → HasSearched b.rows limit best
-searched b limit p best search finished is alone =
-    record { board = b; rows_are = refl; known = p; search = search; finished = finished; best_is = is; alone = alone }
 
 -- the index of a solved state is one of the notes
 pub solved-noted : (b : BoardView) (limit : ℕ) (p : Progress) (k index : ℕ) → IsSearch b limit p → IsSolvedAt b p k index → index < length p.notes
@@ -106,19 +102,18 @@ module _ (b : BoardView) (accepted : IsAccepted b) (limit : ℕ) (p : Progress) 
           ends = within.solved.ends;
         }
 
+    -- so they have fewer pushes than there are states
+    pub below-states : (k : ℕ) (w : List Dir) → p.best ≡ Some k → IsSolvedWithin b (length p.table) k w → k < length p.table
+    below-states k w is within =
+        let exact = (least-solution k w is within).counted in
+        let counted = within.solved.counted in
+        let below = within.small in
+        omega (arith, exact, counted, below)
+
     pub shown-solved : p.frame.aim.whole ≡ true → length p.table ≤ state_limit → (k : ℕ) (w : List Dir) (entries : List Entry) → k < length p.table
         → IsLeastSolution b.rows w k → AreFirstEntries b (claim.Pushes k) p (length p.table) entries → All FitsEntry entries → IsProvedSolved b.rows limit w k entries
     shown-solved whole small k w entries below solution are fit =
         record { solution = solution; certified = certifies whole (claim.Pushes k) entries (omega (arith, below, small)) are fit }
-
-    -- nothing is known beside it, and so it has come to its end alone
-    pub searched-alone : (best : Option ℕ) → p.best ≡ best → (upper : Option ℕ) → p.frame.aim.upper ≡ upper → HasSearchedAlone b.rows limit upper best
-    searched-alone best is None alone = searched b limit p best search none is alone
-    searched-alone best is (Some u) beside = tt
-
-    pub best-searched : (upper : Option ℕ) → p.frame.aim.upper ≡ upper → p.best ≡ upper → HasSearchedAlone b.rows limit upper None
-    best-searched None alone is = searched-alone None is None alone
-    best-searched (Some u) beside is = tt
 
     -- its best has no more pushes than a solution that is known
     within-upper : (best : Option ℕ) → p.best ≡ best → (u : ℕ) → p.frame.aim.upper ≡ Some u → IsBeaten best u
@@ -139,14 +134,14 @@ module _ (b : BoardView) (accepted : IsAccepted b) (limit : ℕ) (p : Progress) 
     pub concluded : p.frame.aim.whole ≡ true → length p.table ≤ state_limit → IfSome p.frame.aim.upper (λ k. k ≤ number_limit) → (Took : List Entry → Type 0)
         (shown : Claim) → shown ≡ claim_of p.best → AreTaken Took b shown p (length p.table) → (wanted : Bool) (found : Finding)
         → IsFinding b.rows limit p.frame.aim.upper found → IsOfBest p found → IsFindingWithProof Took b.rows limit wanted p.frame.aim.upper found
-    concluded whole small fits Took shown claims taken wanted (finding.Solved dirs k) (solution, fewer, alone) (best, below) = (
+    concluded whole small fits Took shown claims taken wanted (finding.Solved dirs k) (solution, within, fewer) (best, below) = (
       taken.entries,
       taken.took,
       shown-solved whole small k dirs.items taken.entries below solution
           (subst (λ c. AreFirstEntries b c p (length p.table) taken.entries) (claims ∙ ap claim_of best) taken.first) taken.fit,
       fewer,
     )
-    concluded whole small fits Took shown claims taken wanted finding.NoBetter (is, alone) best = (
+    concluded whole small fits Took shown claims taken wanted finding.NoBetter is best = (
       taken.entries,
       taken.took,
       is,
@@ -165,12 +160,14 @@ module _ (b : BoardView) (accepted : IsAccepted b) (limit : ℕ) (p : Progress) 
   no-fewer least of_all (Some u) beside above = at-least u (λ i n within at. let enough = of_all.below i n within at in omega (arith, enough, above))
       (λ n beaten. subst (λ o. IsBeaten o n) beside beaten)
 
-  module _ (more : MoreStatesThan b.rows limit) (full : limit ≤ length p.table) (least : ℕ) (of_all : IsLeastOpen p least) where
-    pub cut-short : (upper : Option ℕ) → p.frame.aim.upper ≡ upper → ((n : ℕ) → IsBeaten upper n → least ≤ n) → IsCutShortBeside b.rows limit upper limit least
+  module _ (more : MoreStatesThan b.rows limit) (least : ℕ) (of_all : IsLeastOpen p least) where
+    pub cut-short : (upper : Option ℕ) → p.frame.aim.upper ≡ upper → ((n : ℕ) → IsBeaten upper n → least ≤ n) → IsCutShort b.rows limit limit least
     cut-short upper is beside = record {
       past = record { more = more; is = refl };
       at_least = at-least least of_all.below (λ n beaten. beside n (subst (λ o. IsBeaten o n) is beaten));
-      halted = record { board = b; rows_are = refl; known = p; search = search; full = full; least_is = of_all; beside = is };
+      covers = λ c rows other u v n priced. least-covers b accepted limit p search least of_all u v n
+          (subst (λ board. Priced board (boxes_of board) u v n) (sym (IsAccepted-one b c (sym rows) accepted other)) priced);
+      small = of_all.small;
     }
 
     pub shown-least : p.frame.aim.whole ≡ true → (entries : List Entry) → AreFirstEntries b (claim.Pushes least) p (length p.table) entries
@@ -192,13 +189,13 @@ fewer-beaten (Some u) k fewer n beaten = omega (arith, fewer, beaten)
 
 -- what is found where no solution is known, and what is found beside one
 pub found-alone : (rows : Rows) (limit : ℕ) (finding : Finding) → IsFinding rows limit None finding → IsFoundWithin rows limit (found_of finding)
-found-alone rows limit (finding.Solved dirs pushes) (solution, fewer, searched) = (solution, searched)
+found-alone rows limit (finding.Solved dirs pushes) (solution, within, fewer) = (solution, within)
 found-alone rows limit finding.NoBetter is = is
 found-alone rows limit (finding.Limit states least) (cut, fewer) = cut
 
 pub found-beside : (rows : Rows) (limit best : ℕ) (finding : Finding) → IsFinding rows limit (Some best) finding → IsImproved rows limit best (improved_of finding)
-found-beside rows limit best (finding.Solved dirs pushes) (solution, fewer, searched) = (solution, fewer)
-found-beside rows limit best finding.NoBetter (least, searched) = least
+found-beside rows limit best (finding.Solved dirs pushes) is = is
+found-beside rows limit best finding.NoBetter is = is
 found-beside rows limit best (finding.Limit states least) is = is
 
 -- the same with the entries that were taken
@@ -214,10 +211,6 @@ pub proved-beside : (Took : List Entry → Type 0) (rows : Rows) (limit best : �
 proved-beside Took rows limit best wanted (finding.Solved dirs pushes) is = is
 proved-beside Took rows limit best wanted finding.NoBetter is = is
 proved-beside Took rows limit best wanted (finding.Limit states least) is = is
-
-pub beaten-alone : (rows : Rows) (limit : ℕ) (upper best : Option ℕ) (k : ℕ) → IsBeaten upper k → HasSearchedAlone rows limit upper best
-beaten-alone rows limit None best k beaten = absurd beaten
-beaten-alone rows limit (Some u) best k beaten = tt
 
 -- what is true of an answer by two clauses
 pub both-found : {X E : Type 0} (r : Result X E) (P Q R : X → Type 0) → ((x : X) → P x → Q x → R x) → IfOk r P → IfOk r Q → IfOk r R

@@ -1,14 +1,25 @@
--- The least that open states need.
-use Rattle.std.proofs.Common.{ℕ, ◌≡◌, ◌<◌, ◌+◌, ◌∙◌, inl, inr, refl, sym, ap, subst, Some, min, arith, length, slice_get}
+-- The least that open states need, which is no less than what the start needs.
+use Rattle.std.proofs.Common.{ℕ, ◌≡◌, ◌<◌, ◌≤◌, ◌+◌, ◌∙◌, inl, inr, refl, sym, ap, subst, List, Some, min, arith, length, slice_get}
 use Rattle.std.proofs.Math.Nat.{min-eq_left, min-eq_right, min-le_left, min-le_right}
 use Rattle.std.proofs.lemmas.Bool.{cases_eq, cases_lt}
 use Rattle.std.proofs.lemmas.Option.{same_Some}
 use Rattle.std.specs.Map.{values_of}
-use Rattle.sok_board.specs.Area.{BoardView}
+use Rattle.sok_rules.specs.Play.{start}
+use Rattle.sok_rules.proofs.Man.{IsStanding-start}
+use Rattle.sok_rules.proofs.Runs.{IsStanding-run}
+use Rattle.sok_rules.proofs.Walking.{Same-sym}
+use Rattle.sok_board.specs.Area.{BoardView, IsAccepted, boxes_of}
+use Rattle.sok_price.specs.Prices.{Priced}
+use Rattle.sok_price.proofs.DualityLaws.{AtLeast-run}
+use Rattle.sok_price.proofs.States.{stands_same, stands_start}
+use Rattle.sok_cert.specs.Text.{number_limit}
+use Rattle.sok_state.specs.Keys.{key_position}
 use Rattle.sok_search.specs.declared.note.Note.{Note}
 use Rattle.sok_search.specs.declared.note.Standing.TheVariants.{Open}
-use Rattle.sok_search.specs.Halted.{IsLeastOfFirst, IsOpenAt}
-use Rattle.sok_search.specs.Searches.{IsSearch, Progress}
+use Rattle.sok_search.specs.Halted.{IsLeastOfFirst, IsLeastOpen, IsOpenAt}
+use Rattle.sok_search.specs.Searches.{IsSearch, Progress, Stands}
+use Rattle.sok_search.proofs.Bounding.{placed-apart}
+use Rattle.sok_search.proofs.Chains.{state-reached}
 use Rattle.sok_search.proofs.StatesByIndex.{known-at}
 
 same_bound : (a b : ℕ) → Open a ≡ Open b → a ≡ b
@@ -78,3 +89,29 @@ least-other p count least first closed = record {
   ];
   reached = first.reached;
 }
+
+module _ (b : BoardView) (accepted : IsAccepted b) (limit : ℕ) (p : Progress) (search : IsSearch b limit p) where
+  -- an open state needs no less than prices prove at the start: they fall by at most one with each push that leads to it
+  open-covers : (i m : ℕ) → IsOpenAt p i m → (u v : List ℕ) (n : ℕ) → Priced b (boxes_of b) u v n → n ≤ m
+  open-covers i m at u v n priced =
+      let noted = search.noted i at.key at.depth at.note at.state in
+      let stands : Stands b p i at.key at.depth (Open at.bound) = subst (Stands b p i at.key at.depth) at.is_open noted.stands in
+      let bound = stands.0 in
+      let (_, (goal_of, distances, assignment, cost_is)) = bound.price in
+      let reached = state-reached b limit p search i at.key at.depth at.state.there at.state.depth_is in
+      let standing = IsStanding-run b.rows reached.letters (start b.rows) reached.to (IsStanding-start b.rows accepted.proper) reached.leads in
+      let there = stands_same b accepted.numbered at.key.least at.key.boxes (placed-apart b at.key.boxes at.key.least reached.is.placed) reached.to
+      (Same-sym b.rows reached.to (key_position b at.key) standing reached.is.same) in
+      let fall = AtLeast-run b accepted.numbered (start b.rows) reached.to (boxes_of b) u v n (stands_start b accepted.numbered) priced reached.letters
+      reached.leads at.key.boxes goal_of distances there assignment in
+      let few = reached.few in
+      let less = bound.no_less in
+      let needs = at.needs in
+      omega (arith, fall, few, cost_is, less, needs)
+
+  -- so the least covers the start
+  pub least-covers : (least : ℕ) → IsLeastOpen p least → (u v : List ℕ) (n : ℕ) → Priced b (boxes_of b) u v n → n ≤ number_limit → n ≤ least
+  least-covers least of_all u v n priced small = elim of_all.reached [
+    | inl greatest ↦ omega (arith, small, greatest)
+    | inr (i, at) ↦ open-covers i least at u v n priced
+  ]

@@ -72,7 +72,6 @@ cut-waits b limit index bound aim p queue s is cut queues =
     record {
       more = cut.more;
       search = waits-still b limit index p queue cut.search (subst (λ standing. Queues standing index p.queue queue) is queues);
-      full = cut.full;
       aim_is = cut.aim_is;
     }
 

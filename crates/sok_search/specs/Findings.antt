@@ -1,5 +1,5 @@
 -- What a search finds of a level, of which a solution with so many pushes is known, or none.
-use Rattle.std.specs.Prelude.{ℕ, ◌<◌, Bool, MatchBool, List, [], Option, Some, None, IfSome, ⊤}
+use Rattle.std.specs.Prelude.{ℕ, ◌<◌, Bool, MatchBool, List, [], Option, Some, None, IfSome}
 use Rattle.sok_rules.specs.Squares.{Rows}
 use Rattle.sok_cert.specs.Claim.{Claim}
 use Rattle.sok_cert.specs.Claim.TheVariants as claim
@@ -11,7 +11,7 @@ use Rattle.sok_search.specs.declared.found.Found.{Found}
 use Rattle.sok_search.specs.declared.found.Found.TheVariants as found
 use Rattle.sok_search.specs.declared.improved.Improved.{Improved}
 use Rattle.sok_search.specs.declared.improved.Improved.TheVariants as improved
-use Rattle.sok_search.specs.Outcomes.{Certifies, HasSearched, IsCutShortBeside, IsLeastSolution, IsProvedSolved}
+use Rattle.sok_search.specs.Outcomes.{Certifies, IsCutShort, IsLeastSolution, IsProvedSolved}
 
 -- the claim about a level whose best has so many pushes, or that has no solution
 abbrev pub claim_of : Option ℕ → Claim
@@ -34,16 +34,11 @@ improved_of (Limit states least) = improved.Limit states least
 abbrev pub IsFewer : Option ℕ → ℕ → Type 0
 IsFewer upper n = IfSome upper (λ k. n < k)
 
--- if none was known, a search has ended with this best
-abbrev pub HasSearchedAlone : Rows → ℕ → Option ℕ → Option ℕ → Type 0
-HasSearchedAlone rows limit None best = HasSearched rows limit best
-HasSearchedAlone rows limit (Some k) best = ⊤
-
 -- without a certificate
 abbrev pub IsFinding : Rows → ℕ → Option ℕ → Finding → Type 0
-IsFinding rows limit upper (Solved dirs pushes) = IsLeastSolution rows dirs.items pushes × IsFewer upper pushes × HasSearchedAlone rows limit upper (Some pushes)
-IsFinding rows limit upper NoBetter = IsTrueOf rows (claim_of upper) × HasSearchedAlone rows limit upper None
-IsFinding rows limit upper (Limit states least) = IsCutShortBeside rows limit upper states least × IsFewer upper least
+IsFinding rows limit upper (Solved dirs pushes) = IsLeastSolution rows dirs.items pushes × (pushes < limit) × IsFewer upper pushes
+IsFinding rows limit upper NoBetter = IsTrueOf rows (claim_of upper)
+IsFinding rows limit upper (Limit states least) = IsCutShort rows limit states least × IsFewer upper least
 
 -- with the entries of a certificate that were taken; of a limit only if that is wanted
 abbrev pub IsFindingWithProof : (List Entry → Type 0) → Rows → ℕ → Bool → Option ℕ → Finding → Type 0
@@ -52,5 +47,5 @@ IsFindingWithProof Took rows limit wanted upper (Solved dirs pushes) =
 IsFindingWithProof Took rows limit wanted upper NoBetter =
     (entries : List Entry) × Took entries × IsTrueOf rows (claim_of upper) × Certifies rows limit (claim_of upper) entries
 IsFindingWithProof Took rows limit wanted upper (Limit states least) =
-    IsCutShortBeside rows limit upper states least × IsFewer upper least
+    IsCutShort rows limit states least × IsFewer upper least
     × MatchBool wanted ((entries : List Entry) × Took entries × Certifies rows limit (claim.Pushes least) entries) (Took [])

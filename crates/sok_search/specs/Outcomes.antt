@@ -1,15 +1,16 @@
 -- What the solver answers of a level.
-use Rattle.std.specs.Prelude.{ℕ, ◌≡◌, ◌<◌, ◌≤◌, ◌+◌, ◌⊎◌, ◌++◌, ◌∷◌, Bool, true, false, MatchBool, List, [], Option, Some, None, IsSomeAnd, length}
+use Rattle.std.specs.Prelude.{ℕ, ◌≡◌, ◌<◌, ◌≤◌, ◌+◌, ◌⊎◌, ◌++◌, ◌∷◌, Bool, true, false, MatchBool, List, [], Option, None, IsSomeAnd, length}
 use Rattle.sok_rules.specs.declared.cell.Dir.{Dir}
 use Rattle.sok_rules.specs.Squares.{Rows}
 use Rattle.sok_rules.specs.Play.{start, pushes, Solves, AtLeast, IsFewest, IsUnsolvable}
 use Rattle.sok_rules.specs.States.{MoreStatesThan}
-use Rattle.sok_board.specs.Area.{BoardView, IsAccepted}
+use Rattle.sok_board.specs.Area.{BoardView, IsAccepted, boxes_of}
+use Rattle.sok_price.specs.Prices.{Priced}
 use Rattle.sok_cert.specs.Claim.{Claim}
 use Rattle.sok_cert.specs.Claim.TheVariants as claim
 use Rattle.sok_cert.specs.Certificate.{Certificate}
 use Rattle.sok_cert.specs.Entry.{Entry}
-use Rattle.sok_cert.specs.Text.{Fits}
+use Rattle.sok_cert.specs.Text.{Fits, number_limit}
 use Rattle.sok_cert.specs.Closed.{IsClosed}
 use Rattle.sok_search.specs.declared.found.Found.{Found}
 use Rattle.sok_search.specs.declared.found.Found.TheVariants as found
@@ -17,8 +18,6 @@ use Rattle.sok_search.specs.declared.improved.Improved.{Improved}
 use Rattle.sok_search.specs.declared.improved.Improved.TheVariants as improved
 use Rattle.sok_search.specs.declared.outcome.Outcome.{Outcome}
 use Rattle.sok_search.specs.declared.outcome.Outcome.TheVariants.{Solved, Unsolvable, Limit}
-use Rattle.sok_search.specs.Halted.{IsLeastOpen}
-use Rattle.sok_search.specs.Searches.{Progress, IsSearch}
 
 -- the last letter of a list pushes
 pub record PushesLast (rows : Rows) (w : List Dir) : Type 0 where
@@ -59,49 +58,32 @@ pub record IsPastLimit (rows : Rows) (limit states : ℕ) : Type 0 where
   pub more : MoreStatesThan rows limit
   pub is : states ≡ limit
 
--- A search from nothing that keeps at most so many states has ended: its open list is empty, and this is the least depth of a solved state, if there is one.
--- So each push of an expanded state leads to a known state, or to a deadlock.
-pub record HasSearched (rows : Rows) (limit : ℕ) (best : Option ℕ) : Type 0 where
-  pub board : BoardView
-  pub rows_are : board.rows ≡ rows
-  pub known : Progress
-  pub search : IsSearch board limit known
-  pub finished : known.queue ≡ []
-  pub best_is : known.best ≡ best
-  pub alone : known.frame.aim.upper ≡ None
+-- A number that is no less than what any prices of the start's boxes prove, as far as a certificate can claim that. So it is no less than the cost of their
+-- minimum assignment.
+abbrev pub CoversStart : Rows → ℕ → Type 0
+CoversStart rows least =
+    (b : BoardView) → b.rows ≡ rows → IsAccepted b → (u v : List ℕ) (n : ℕ) → Priced b (boxes_of b) u v n → n ≤ number_limit → n ≤ least
 
--- A search that keeps as many states as the limit was cut off; a solution with so many pushes was known, or none. This is the least sum of depth and lower
--- bound over its open states.
-pub record HasHalted (rows : Rows) (limit : ℕ) (upper : Option ℕ) (least : ℕ) : Type 0 where
-  pub board : BoardView
-  pub rows_are : board.rows ≡ rows
-  pub known : Progress
-  pub search : IsSearch board limit known
-  pub full : limit ≤ length known.table
-  pub least_is : IsLeastOpen known least
-  pub beside : known.frame.aim.upper ≡ upper
-
--- more states can be reached than the limit, and no solution has fewer pushes than a search that keeps as many shows, beside a known solution or beside none
-pub record IsCutShortBeside (rows : Rows) (limit : ℕ) (upper : Option ℕ) (states least : ℕ) : Type 0 where
+-- More states can be reached than the limit, and no solution has fewer pushes than the lower bound that is reported. It is no less than that of the start, and
+-- a certificate can claim it.
+pub record IsCutShort (rows : Rows) (limit states least : ℕ) : Type 0 where
   pub past : IsPastLimit rows limit states
   pub at_least : AtLeast rows least
-  pub halted : HasHalted rows limit upper least
+  pub covers : CoversStart rows least
+  pub small : least ≤ number_limit
 
-abbrev pub IsCutShort : Rows → ℕ → ℕ → ℕ → Type 0
-IsCutShort rows limit = IsCutShortBeside rows limit None
-
--- what is found of a level within a limit
+-- what is found of a level within a limit: a solution has fewer pushes than states may be kept
 abbrev pub IsFoundWithin : Rows → ℕ → Found → Type 0
-IsFoundWithin rows limit (found.Solved dirs pushes) = IsLeastSolution rows dirs.items pushes × HasSearched rows limit (Some pushes)
-IsFoundWithin rows limit found.Unsolvable = IsUnsolvable rows × HasSearched rows limit None
+IsFoundWithin rows limit (found.Solved dirs pushes) = IsLeastSolution rows dirs.items pushes × (pushes < limit)
+IsFoundWithin rows limit found.Unsolvable = IsUnsolvable rows
 IsFoundWithin rows limit (found.Limit states at_least) = IsCutShort rows limit states at_least
 
--- What is found of a level beside a solution with so many pushes: a solution with the fewest, which are fewer; or that none has fewer; or that the limit was
--- reached, with a lower bound that is less.
+-- What is found of a level beside a solution with so many pushes: a solution with the fewest, which are fewer, and fewer than states may be kept; or that none
+-- has fewer; or that the limit was reached, with a lower bound that is less.
 abbrev pub IsImproved : Rows → ℕ → ℕ → Improved → Type 0
-IsImproved rows limit best (improved.Fewer dirs pushes) = IsLeastSolution rows dirs.items pushes × (pushes < best)
+IsImproved rows limit best (improved.Fewer dirs pushes) = IsLeastSolution rows dirs.items pushes × (pushes < limit) × (pushes < best)
 IsImproved rows limit best improved.Optimal = AtLeast rows best
-IsImproved rows limit best (improved.Limit states at_least) = IsCutShortBeside rows limit (Some best) states at_least × (at_least < best)
+IsImproved rows limit best (improved.Limit states at_least) = IsCutShort rows limit states at_least × (at_least < best)
 
 -- the same, and the entries that were taken are those of a certificate that shows it; of a limit only if that is wanted
 abbrev pub IsImprovedWithProof : (List Entry → Type 0) → Rows → ℕ → Bool → ℕ → Improved → Type 0
@@ -110,7 +92,7 @@ IsImprovedWithProof Took rows limit wanted best (improved.Fewer dirs pushes) =
 IsImprovedWithProof Took rows limit wanted best improved.Optimal =
     (entries : List Entry) × Took entries × AtLeast rows best × Certifies rows limit (claim.Pushes best) entries
 IsImprovedWithProof Took rows limit wanted best (improved.Limit states least) =
-    IsCutShortBeside rows limit (Some best) states least × (least < best)
+    IsCutShort rows limit states least × (least < best)
     × MatchBool wanted ((entries : List Entry) × Took entries × Certifies rows limit (claim.Pushes least) entries) (Took [])
 
 -- a certificate for a claim, whose entries show something

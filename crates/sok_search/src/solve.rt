@@ -47,7 +47,7 @@ pub const LIMIT: u32 = 1_000_000;
 ///
 /// It is an A* search over states, which keeps at most `limit` of them; the lower bound of a state is
 /// the cost of a minimum assignment of its boxes to goals. If `limit` states do not suffice, it returns
-/// `Outcome::Limit` with the lower bound that they show.
+/// `Outcome::Limit` with a lower bound.
 ///
 /// Errors, in this order: `BadLimit` if `limit` is 0 or above `LIMIT`; the faults of `Board::new`;
 /// `Memory`.
@@ -433,7 +433,7 @@ fn find_in(alloc: Global, board: &Board, search: &Search) -> Result<Finding, Mem
 }
 
 /// Returns the claim about a level whose best has so many pushes, or that has no solution.
-fn claim_of(best: Option<u32>) -> Claim
+pub fn claim_of(best: Option<u32>) -> Claim
     ensures { result ≡ claim_of best }
 {
     match best {

@@ -11,7 +11,7 @@ use Rattle.sok_rules.specs.Play.{IsFewest, IsUnsolvable}
 use Rattle.sok_cert.specs.Claim.{Claim}
 use Rattle.sok_cert.specs.Claim.TheVariants as claim
 use Rattle.sok_search.specs.Findings.{IsFewer}
-use Rattle.sok_search.specs.Outcomes.{IsCutShortBeside, IsLeastSolution}
+use Rattle.sok_search.specs.Outcomes.{IsCutShort, IsLeastSolution}
 use Rattle.sok_book.specs.declared.fault.BookFault.{BookFault}
 use Rattle.sok_book.specs.Books.{Book, Page}
 use Rattle.sok_book.specs.Commands.{SetsVerdict, best_pushes}
@@ -71,7 +71,7 @@ module _ (keeping : Keeping) (limit : ℕ) (span : Span) (id : ℤ) (page : Page
   fault_goes s fault held later result stays (inr tells) = stays_goes s (fault_line id fault) held later result stays tells
 
   pub limit_goes : (s : State) (least : ℕ) (held later : Option (List ℕ)) (result : Result Bool ToolFault)
-      → IsCutShortBeside page.level limit (best_pushes page) limit least → IsFewer (best_pushes page) least
+      → IsCutShort page.level limit limit least → IsFewer (best_pushes page) least
       → TellsLine (limit_line id limit least) false held later result → through_tried s s held later result
   limit_goes s least held later result cut fewer tells =
       stays_goes s (limit_line id limit least) held later result (λ book tried. is_past_limit page least tried cut fewer refl refl refl) tells

@@ -11,7 +11,7 @@ use Rattle.sok_cert.specs.Claim.{Claim}
 use Rattle.sok_cert.specs.Claim.TheVariants as claim
 use Rattle.sok_search.specs.Faults.{IsBadLimit}
 use Rattle.sok_search.specs.Findings.{IsFewer}
-use Rattle.sok_search.specs.Outcomes.{IsCutShortBeside, IsLeastSolution}
+use Rattle.sok_search.specs.Outcomes.{IsCutShort, IsLeastSolution}
 use Rattle.sok_book.specs.declared.fault.BookFault.TheVariants as refusal
 use Rattle.sok_book.specs.declared.record.Offer.{Offer}
 use Rattle.sok_book.specs.declared.record.Verdict.TheVariants.{Untested}
@@ -79,7 +79,7 @@ pub data SettlesLevel (keeping : Keeping) (limit : ℕ) (span : Span) (id : ℤ)
       → after ≡ book → SettlesLevel keeping limit span id book line settled after
   is_settled : (page : Page) (shown : Claim) → IsTried span id page book → keeping.keeps limit id page.level shown
       → SettlesBy id page.level shown book line settled after → SettlesLevel keeping limit span id book line settled after
-  is_past_limit : (page : Page) (least : ℕ) → IsTried span id page book → IsCutShortBeside page.level limit (best_pushes page) limit least
+  is_past_limit : (page : Page) (least : ℕ) → IsTried span id page book → IsCutShort page.level limit limit least
       → IsFewer (best_pushes page) least → line ≡ limit_line id limit least → settled ≡ false → after ≡ book → SettlesLevel keeping limit span id book line settled after
   is_too_long : (page : Page) (letters : List Dir) (pushes : ℕ) → IsTried span id page book → IsLeastSolution page.level letters pushes
       → letter_limit < length letters → line ≡ fault_line id too_long → settled ≡ false → after ≡ book

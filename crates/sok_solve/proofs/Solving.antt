@@ -1,6 +1,6 @@
 -- What is answered to a level that is to be solved.
-use Rattle.std.proofs.Common.{ℕ, ◌≡◌, Bool, true, false, List, Option, Some, None, Result, Ok, Err}
-use Rattle.std.proofs.Common.{IsSome, MatchBool, MatchResult, refl, subst, sym, true≢false}
+use Rattle.std.proofs.Common.{ℕ, ◌≡◌, Bool, true, false, List, [], Option, Some, None, Result, Ok, Err}
+use Rattle.std.proofs.Common.{IsSome, MatchBool, MatchResult, refl, subst, sym}
 use Rattle.std.specs.Option.{IsSomeAnd}
 use Rattle.sok_rules.specs.declared.cell.Dir.{Dir}
 use Rattle.sok_rules.specs.declared.fault.PlayFault.{PlayFault}
@@ -11,17 +11,22 @@ use Rattle.sok_rules.specs.Squares.{Rows}
 use Rattle.sok_rules.proofs.Outcomes.{blocked_not_legal}
 use Rattle.sok_board.specs.declared.fault.BoardFault.TheVariants as board
 use Rattle.sok_board.specs.Refusals.{IsAcceptable}
+use Rattle.sok_cert.specs.Claim.TheVariants as claim
+use Rattle.sok_cert.specs.Entry.{Entry}
 use Rattle.sok_search.specs.declared.fault.SolveFault.{SolveFault}
 use Rattle.sok_search.specs.declared.fault.SolveFault.TheVariants as solve
+use Rattle.sok_search.specs.declared.finding.Finding.{Finding}
+use Rattle.sok_search.specs.declared.finding.Finding.TheVariants as finding
 use Rattle.sok_search.specs.Faults.{IsBadLimit, TellsFault}
-use Rattle.sok_search.specs.Outcomes.{IsCutShort, IsCutShortBeside}
+use Rattle.sok_search.specs.Findings.{IsFinding, IsFindingWithProof}
+use Rattle.sok_search.specs.Outcomes.{Certifies}
 use Rattle.sok_search.proofs.Refusing.{no-fault}
 use Rattle.sok_engine.specs.declared.fault.ToolFault.{ToolFault}
 use Rattle.sok_engine.specs.declared.fault.ToolFault.TheVariants as tool
-use Rattle.sok_engine.specs.Certified.{Certified}
 use Rattle.sok_engine.specs.Faults.{of_play}
 use Rattle.sok_engine.specs.Written.{Answer, Gives, IsFaultOf}
 use Rattle.sok_solve.specs.Faults.{of_solve}
+use Rattle.sok_solve.specs.Reports.{HasSolution}
 use Rattle.sok_solve.specs.Solves.{IsAnswered, is_bad, is_refused, is_told}
 
 -- letters that solve are legal
@@ -64,23 +69,28 @@ answering text status = record { text = text; status = status }
 pub same_answer : (text words : List ℕ) (status exit : ℕ) → text ≡ words → status ≡ exit → answering text status ≡ answering words exit
 same_answer text words status exit texts statuses = λ i. answering (texts i) (statuses i)
 
--- a certificate, and an answer with its status
-abbrev certified : List ℕ → List ℕ → ℕ → Certified
-certified cert text status = record { cert = cert; answer = record { text = text; status = status } }
+-- letters that were found solve the level
+pub has_solution : (rows : Rows) (limit : ℕ) (best : Option ℕ) (found : Finding) → IsFinding rows limit best found → HasSolution rows found
+has_solution rows limit best (finding.Solved dirs pushes) (solution, _, _) = solution.solves
+has_solution rows limit best finding.NoBetter is = tt
+has_solution rows limit best (finding.Limit states least) is = tt
 
-pub same_certified : (cert shown text words : List ℕ) (status exit : ℕ) → cert ≡ shown → text ≡ words → status ≡ exit
-    → certified cert text status ≡ certified shown words exit
-same_certified cert shown text words status exit certs texts statuses = λ i. certified (certs i) (texts i) (statuses i)
+-- and so do those that were found with a certificate
+pub has_proved : (Took : List Entry → Type 0) (rows : Rows) (limit : ℕ) (wanted : Bool) (best : Option ℕ) (found : Finding)
+    → IsFindingWithProof Took rows limit wanted best found → HasSolution rows found
+has_proved Took rows limit wanted best (finding.Solved dirs pushes) (entries, took, proved, _) = proved.solution.solves
+has_proved Took rows limit wanted best finding.NoBetter is = tt
+has_proved Took rows limit wanted best (finding.Limit states least) is = tt
 
--- a search that was cut off, at the limit itself
-pub at_limit_beside : (rows : Rows) (limit : ℕ) (upper : Option ℕ) (states least : ℕ) → IsCutShortBeside rows limit upper states least
-    → IsCutShortBeside rows limit upper limit least
-at_limit_beside rows limit upper states least cut = subst (λ n. IsCutShortBeside rows limit upper n least) cut.past.is cut
+-- what is true of the entries that were taken is true of those that show what was found
+module _ (Took Takes : List Entry → Type 0) (more : (entries : List Entry) → Took entries → Takes entries) (rows : Rows) (limit : ℕ) where
+  bound_more : (wanted : Bool) (least : ℕ) → MatchBool wanted ((entries : List Entry) × Took entries × Certifies rows limit (claim.Pushes least) entries) (Took [])
+      → MatchBool wanted ((entries : List Entry) × Takes entries × Certifies rows limit (claim.Pushes least) entries) (Takes [])
+  bound_more true least (entries, took, shown) = (entries, more entries took, shown)
+  bound_more false least none = more [] none
 
-pub at_limit : (rows : Rows) (limit states least : ℕ) → IsCutShort rows limit states least → IsCutShort rows limit limit least
-at_limit rows limit = at_limit_beside rows limit None
-
--- what is there where it is asked for
-pub asked : (P Q : Type 0) (wanted : Bool) → wanted ≡ true → MatchBool wanted P Q → P
-asked P Q true is there = there
-asked P Q false is there = absurd (true≢false (sym is))
+  pub proof_more : (wanted : Bool) (best : Option ℕ) (found : Finding) → IsFindingWithProof Took rows limit wanted best found
+      → IsFindingWithProof Takes rows limit wanted best found
+  proof_more wanted best (finding.Solved dirs pushes) (entries, took, shown, fewer) = (entries, more entries took, shown, fewer)
+  proof_more wanted best finding.NoBetter (entries, took, is, shown) = (entries, more entries took, is, shown)
+  proof_more wanted best (finding.Limit states least) (cut, fewer, shown) = (cut, fewer, bound_more wanted least shown)

@@ -1,80 +1,78 @@
--- The answers to a level that is to be solved within a limit of states, with a certificate or without. If the limit is exceeded, the answer may have the lower
--- bound that the search shows, or not.
-use Rattle.std.specs.Prelude.{ℕ, ◌≡◌, ◌≢◌, Bool, true, false, List, [], ◌++◌, Some, None, Result, Ok, Err, codes, length}
+-- The answers to a level that is to be solved within a limit of states: with the fewest pushes, and fewer than a known solution has, if there is one. They have
+-- a certificate or not.
+use Rattle.std.specs.Prelude.{ℕ, ◌≡◌, ◌≢◌, ◌++◌, Bool, true, false, List, [], Option, Some, None, Result, Ok, Err, codes, cond, length, min, option_map}
+use Rattle.std.specs.Option.{option_map_or}
 use Rattle.std.specs.Fmt.{decimal}
 use Rattle.sok_rules.specs.declared.cell.Dir.{Dir}
 use Rattle.sok_rules.specs.Squares.{Rows}
-use Rattle.sok_rules.specs.Play.{start, IsUnsolvable}
+use Rattle.sok_rules.specs.Play.{start}
 use Rattle.sok_text.specs.Collections.{blocks_of, level_at}
 use Rattle.sok_text.specs.Marked.{marked_text}
 use Rattle.sok_board.specs.declared.fault.BoardFault.{BoardFault}
 use Rattle.sok_board.specs.declared.fault.BoardFault.TheVariants as board
 use Rattle.sok_board.specs.Refusals.{IsAcceptable, IsRefused}
+use Rattle.sok_cert.specs.Claim.{Claim}
 use Rattle.sok_cert.specs.Claim.TheVariants as claim
 use Rattle.sok_cert.specs.Entry.{Entry}
-use Rattle.sok_cert.specs.Text.{text_of}
+use Rattle.sok_cert.specs.Text.{number_limit, text_of}
+use Rattle.sok_search.specs.declared.finding.Finding.{Finding}
+use Rattle.sok_search.specs.declared.finding.Finding.TheVariants.{Solved, NoBetter, Limit}
 use Rattle.sok_search.specs.Faults.{IsBadLimit}
-use Rattle.sok_search.specs.Outcomes.{Certifies, HasSearched, IsCutShort, IsLeastSolution, IsProvedSolved, IsProvedUnsolvable}
+use Rattle.sok_search.specs.Findings.{IsFinding, IsFindingWithProof, claim_of}
 use Rattle.sok_engine.specs.declared.fault.ToolFault.{ToolFault}
 use Rattle.sok_engine.specs.declared.fault.ToolFault.TheVariants as tool
 use Rattle.sok_engine.specs.Certified.{Certified, CertifiedAnswers}
 use Rattle.sok_engine.specs.Faults.{of_board}
 use Rattle.sok_engine.specs.Inputs.{OnLevel}
 use Rattle.sok_engine.specs.Written.{Answer, Answers}
+use Rattle.sok_solve.specs.declared.task.Task.{Task}
+
+-- the pushes of the known solution, but no more than a certificate can claim
+abbrev pub best_of : Task → Option ℕ
+best_of task = option_map (λ below. min below number_limit) task.below
 
 -- the line of a solution, and its marked text on a line of its own
 abbrev pub solution_text : Rows → List Dir → ℕ → List ℕ
 solution_text rows w pushes =
     codes "solved " ++ decimal pushes ++ codes " " ++ decimal (length w) ++ codes "\n" ++ marked_text rows (start rows) w ++ codes "\n"
 
--- the answers, without a certificate
-abbrev pub solution_answer : Rows → List Dir → ℕ → Answer
-solution_answer rows w pushes = record { text = solution_text rows w pushes; status = 0 }
+-- no solution has fewer pushes than the known one, or there is none
+abbrev pub no_better_text : Option ℕ → List ℕ
+no_better_text (Some best) = codes "at least " ++ decimal best ++ codes "\n"
+no_better_text None = codes "unsolvable\n"
 
-abbrev pub unsolvable_answer : Answer
-unsolvable_answer = record { text = codes "unsolvable\n"; status = 0 }
+-- the limit, and if it is wanted, the lower bound that the search shows
+abbrev pub limit_text : ℕ → Bool → ℕ → List ℕ
+limit_text limit true least = codes "limit " ++ (decimal limit ++ (codes " at least " ++ (decimal least ++ codes "\n")))
+limit_text limit false least = codes "limit " ++ decimal limit ++ codes "\n"
 
-abbrev pub limit_answer : ℕ → Answer
-limit_answer limit = record { text = codes "limit " ++ decimal limit ++ codes "\n"; status = 4 }
+-- the answer that reports what was found
+abbrev pub answer_of : Rows → Task → Finding → Answer
+answer_of rows task (Solved dirs pushes) = record { text = solution_text rows dirs.items pushes; status = 0 }
+answer_of rows task NoBetter = record { text = no_better_text (best_of task); status = 0 }
+answer_of rows task (Limit states least) = record { text = limit_text states task.bound least; status = 4 }
 
--- the limit, and the lower bound that the search shows
-abbrev pub bound_answer : ℕ → ℕ → Answer
-bound_answer limit least = record { text = codes "limit " ++ decimal limit ++ codes " at least " ++ decimal least ++ codes "\n"; status = 4 }
+-- the claim of its certificate; at the limit there is one only with a bound
+abbrev pub claim_shown : Task → Finding → Option Claim
+claim_shown task (Solved dirs pushes) = Some (claim.Pushes pushes)
+claim_shown task NoBetter = Some (claim_of (best_of task))
+claim_shown task (Limit states least) = cond task.bound (Some (claim.Pushes least)) None
 
--- The answer without a certificate, after a search within the limit. It is a solution with the fewest pushes, or there is none; or there are too many states,
--- and if a bound is wanted, a lower bound is reported.
-pub data TellsFound (limit : ℕ) (bound : Bool) (rows : Rows) (told : Answer) : Type 0 where
-  is_solution : (w : List Dir) (pushes : ℕ) → IsLeastSolution rows w pushes → HasSearched rows limit (Some pushes)
-      → told ≡ solution_answer rows w pushes → TellsFound limit bound rows told
-  has_none : IsUnsolvable rows → HasSearched rows limit None → told ≡ unsolvable_answer → TellsFound limit bound rows told
-  is_past_limit : (least : ℕ) → IsCutShort rows limit limit least → bound ≡ false → told ≡ limit_answer limit → TellsFound limit bound rows told
-  has_bound : (least : ℕ) → IsCutShort rows limit limit least → bound ≡ true → told ≡ bound_answer limit least → TellsFound limit bound rows told
+-- the text of the certificate with these entries; none without a claim
+abbrev pub cert_of : Task → Finding → List Entry → List ℕ
+cert_of task found entries = option_map_or (λ shown. text_of shown entries) (claim_shown task found) []
 
--- with a certificate that no solution has fewer pushes
-abbrev pub certified_solution : Rows → List Dir → ℕ → List Entry → Certified
-certified_solution rows w pushes entries = record { cert = text_of (claim.Pushes pushes) entries; answer = solution_answer rows w pushes }
+-- something is found of the level, and reported
+pub record TellsFound (task : Task) (rows : Rows) (told : Answer) : Type 0 where
+  pub found : Finding
+  pub is : IsFinding rows task.limit (best_of task) found
+  pub answer_is : told ≡ answer_of rows task found
 
--- with a certificate that there is no solution
-abbrev pub certified_unsolvable : List Entry → Certified
-certified_unsolvable entries = record { cert = text_of claim.Unsolvable entries; answer = unsolvable_answer }
-
--- with no certificate
-abbrev pub uncertified_limit : ℕ → Certified
-uncertified_limit limit = record { cert = []; answer = limit_answer limit }
-
--- with a certificate of the lower bound that the search shows
-abbrev pub certified_bound : ℕ → ℕ → List Entry → Certified
-certified_bound limit least entries = record { cert = text_of (claim.Pushes least) entries; answer = bound_answer limit least }
-
--- The answer. It is a solution with the fewest pushes, or there is none, each with a closed certificate; or there are too many states, and if a bound is
--- wanted, a lower bound is reported, with a closed certificate, too.
-pub data TellsOutcome (limit : ℕ) (bound : Bool) (rows : Rows) (told : Certified) : Type 0 where
-  is_solved : (w : List Dir) (pushes : ℕ) (entries : List Entry) → IsProvedSolved rows limit w pushes entries
-      → told ≡ certified_solution rows w pushes entries → TellsOutcome limit bound rows told
-  is_unsolvable : (entries : List Entry) → IsProvedUnsolvable rows limit entries → told ≡ certified_unsolvable entries → TellsOutcome limit bound rows told
-  is_limited : (least : ℕ) → IsCutShort rows limit limit least → bound ≡ false → told ≡ uncertified_limit limit → TellsOutcome limit bound rows told
-  is_bounded : (least : ℕ) (entries : List Entry) → IsCutShort rows limit limit least → Certifies rows limit (claim.Pushes least) entries → bound ≡ true
-      → told ≡ certified_bound limit least entries → TellsOutcome limit bound rows told
+-- the same, with the certificate whose entries show it
+pub record TellsProved (task : Task) (rows : Rows) (told : Certified) : Type 0 where
+  pub found : Finding
+  pub shown : IsFindingWithProof (λ entries. told.cert ≡ cert_of task found entries) rows task.limit task.bound (best_of task) found
+  pub answer_is : told.answer ≡ answer_of rows task found
 
 -- the limit is refused; otherwise the level is refused; otherwise something is found of it, which becomes the answer
 pub data IsAnswered {A : Type 0} (Tells : A → Type 0) (limit : ℕ) (rows : Rows) (answer : Result A ToolFault) : Type 0 where
@@ -84,16 +82,15 @@ pub data IsAnswered {A : Type 0} (Tells : A → Type 0) (limit : ℕ) (rows : Ro
   is_told : ¬ (IsBadLimit limit) → IsAcceptable rows → (told : A) → Tells told → answer ≡ Ok told → IsAnswered Tells limit rows answer
 
 -- with a certificate, and without one
-abbrev pub IsSolveAnswer : ℕ → Bool → Rows → CertifiedAnswers
-IsSolveAnswer limit bound rows = IsAnswered (TellsOutcome limit bound rows) limit rows
+abbrev pub IsSolveAnswer : Task → Rows → CertifiedAnswers
+IsSolveAnswer task rows = IsAnswered (TellsProved task rows) task.limit rows
 
-abbrev pub IsFindAnswer : ℕ → Bool → Rows → Answers
-IsFindAnswer limit bound rows = IsAnswered (TellsFound limit bound rows) limit rows
+abbrev pub IsFindAnswer : Task → Rows → Answers
+IsFindAnswer task rows = IsAnswered (TellsFound task rows) task.limit rows
 
--- the answer to the n-th level of a collection, counted from 1
-abbrev pub IsSolve : ℕ → ℕ → Bool → List ℕ → CertifiedAnswers
-IsSolve n limit bound bytes = OnLevel (IsSolveAnswer limit bound) (level_at (blocks_of bytes) n)
+-- the answer to the level of a collection
+abbrev pub IsSolve : Task → List ℕ → CertifiedAnswers
+IsSolve task bytes = OnLevel (IsSolveAnswer task) (level_at (blocks_of bytes) task.n)
 
--- the same, without a certificate
-abbrev pub IsFind : ℕ → ℕ → Bool → List ℕ → Answers
-IsFind n limit bound bytes = OnLevel (IsFindAnswer limit bound) (level_at (blocks_of bytes) n)
+abbrev pub IsFind : Task → List ℕ → Answers
+IsFind task bytes = OnLevel (IsFindAnswer task) (level_at (blocks_of bytes) task.n)

@@ -3,14 +3,14 @@
 //! | Module | What it holds |
 //! |---|---|
 //! | `certificate` | the text of a certificate, made as its entries are found |
-//! | `find` | a solution with the fewest pushes, without a certificate |
-//! | `improve` | a solution with fewer pushes than a known one, without a certificate |
-//! | `improve_certified` | the same, with a certificate |
-//! | `solve` | a solution with the fewest pushes, with a certificate |
+//! | `find` | solving a level without a certificate |
+//! | `report` | the answer that reports what a search found |
+//! | `solve` | solving a level with a certificate |
+//! | `task` | which level is to be solved, and how |
 #![tactic(auto)]
 
 pub mod certificate;
 pub mod find;
-pub mod improve;
-pub mod improve_certified;
+mod report;
 pub mod solve;
+pub mod task;

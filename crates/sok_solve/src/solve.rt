@@ -1,72 +1,68 @@
-//! A solution with the fewest pushes, with a certificate.
+//! Solving a level with a certificate.
 
-ghost use Rattle.std.specs.Prelude.{◌≡◌, IfOk, MatchResult, Ok};
+ghost use Rattle.std.specs.Prelude.{◌≡◌, MatchResult, Ok};
 ghost use Rattle.sok_engine.specs.Certified.{WritesBoth};
 ghost use Rattle.sok_engine.specs.Inputs.{OfReader, Within};
 ghost use Rattle.sok_engine.specs.Limits.{input_limit};
 ghost use Rattle.sok_engine.specs.Written.{Gives};
 ghost use Rattle.sok_engine.specs.declared.fault.ToolFault.TheVariants as tool;
-ghost use Rattle.sok_rules.specs.Play.{Solves};
-ghost use Rattle.sok_search.specs.Outcomes.{IsFoundWithProof};
-ghost use Rattle.sok_solve.specs.Faults.{of_solve};
+ghost use Rattle.sok_search.specs.Findings.{IsFindingWithProof};
 ghost use Rattle.sok_solve.specs.Lines.{HasLines};
-ghost use Rattle.sok_solve.specs.Solves.{IsSolve, IsSolveAnswer, TellsOutcome};
-ghost use Rattle.sok_solve.specs.Solves.{bound_answer, limit_answer, solution_text};
+ghost use Rattle.sok_solve.specs.Solves.{IsSolve, IsSolveAnswer, TellsProved, best_of, claim_shown};
 
 use crate::certificate::{EntryLines, ReadyCert};
+use crate::report::{report, tool_fault};
+use crate::task::Task;
 use sok_cert::claim::Claim;
 use sok_engine::answer::Answer;
 use sok_engine::fault::ToolFault;
 use sok_engine::input::read_input;
-use sok_rules::cell::Dir;
 use sok_rules::level::Level;
-use sok_search::fault::SolveFault;
-use sok_search::found::Found;
-use sok_search::solve::solve_into;
+use sok_search::finding::Finding;
+use sok_search::solve::{claim_of, search_into};
 use sok_text::collection::Collection;
-use sok_text::lurd::print_lurd;
-use std::alloc::{AllocError, Global};
+use std::alloc::Global;
 use std::io::{Read, Write};
 use std::marker::Model;
 
-/// Solves the n-th level of a collection, counted from 1, within a limit of 1 to 1,000,000 states.
-/// Writes one of these answers:
+/// Solves a level of a collection. Writes one of these answers:
 ///
 /// - `solved PUSHES MOVES` and, on a line of its own, a solution with the fewest pushes, in upper
-///   case where it pushes; its certificate is written to `cert_out` before;
-/// - `unsolvable`, if there is no solution; its certificate is written to `cert_out` before;
+///   case where it pushes; they are fewer than `below`, if that is given;
+/// - `unsolvable`, if there is no solution; or, if `below` is given, `at least BELOW`, if no solution
+///   has fewer pushes, which is true of an unsolvable level, too;
 /// - `limit S`, with status 4, if more states than the limit can be reached; or, if `bound` is set,
-///   `limit S at least K` with a certificate that no solution has fewer than K pushes.
+///   `limit S at least K`, as no solution has fewer than K pushes; K is less than `below`.
+///
+/// A certificate of each answer except `limit S` is written to `cert_out` before it, of `at least
+/// BELOW` for `pushes BELOW`. It may be longer than one that is read.
 ///
 /// Errors, in this order, with nothing written: `ReadFailed` or `TooMuch`; `NoSuchLevel` or another
 /// fault of the level; `BadLimit`; a fault of its board. `WriteFailed` as soon as a write fails:
 /// after a first part of the certificate and nothing of the answer, or after the certificate and a
-/// first part of the answer. The certificate may be longer than one that is read. For a reader whose
-/// remaining bytes are unknown, this is promised for some bytes.
+/// first part of the answer. For a reader whose remaining bytes are unknown, this is promised for
+/// some bytes.
 pub fn solve_bytes<R: Read, W: Write, C: Write>(
     alloc: Global,
     input: &mut R,
-    n: usize,
-    limit: u32,
-    bound: bool,
+    task: &Task,
     out: &mut W,
     cert_out: &mut C,
 ) -> Result<u8, ToolFault>
-    ensures { WritesBoth
-        (OfReader (R.remaining input.old) (Within input_limit (IsSolve n limit bound)))
+    ensures { WritesBoth (OfReader (R.remaining input.old) (Within input_limit (IsSolve task.now)))
         (record { old = C.contents cert_out.old; new = C.contents cert_out.new })
         (record { old = W.contents out.old; new = W.contents out.new }) result }
 {
     let bytes = read_input(alloc, input)?;
-    let told = solved(alloc, bytes.as_slice(), n, limit, bound)?;
+    let told = solved(alloc, bytes.as_slice(), task)?;
     told.write(cert_out, out)
 }
 
 /// An answer, and the certificate that is written before it, if there is one.
 #[derive(Drop)]
-pub(crate) struct CertifiedAnswer {
-    pub(crate) cert: Option<ReadyCert>,
-    pub(crate) answer: Answer,
+struct CertifiedAnswer {
+    cert: Option<ReadyCert>,
+    answer: Answer,
 }
 
 impl Model for CertifiedAnswer {
@@ -84,11 +80,7 @@ impl CertifiedAnswer {
     ///
     /// Errors: `WriteFailed` as soon as a write fails. After a first part of the certificate,
     /// nothing of the answer is written.
-    pub(crate) fn write<C: Write, W: Write>(
-        self,
-        cert_out: &mut C,
-        out: &mut W,
-    ) -> Result<u8, ToolFault>
+    fn write<C: Write, W: Write>(self, cert_out: &mut C, out: &mut W) -> Result<u8, ToolFault>
         ensures { WritesBoth (λ both. both ≡ Ok self)
             (record { old = C.contents cert_out.old; new = C.contents cert_out.new })
             (record { old = W.contents out.old; new = W.contents out.new }) result }
@@ -102,126 +94,68 @@ impl CertifiedAnswer {
 }
 
 /// Returns the answer to a level of a collection.
-fn solved(
-    alloc: Global,
-    collection: &[u8],
-    n: usize,
-    limit: u32,
-    bound: bool,
-) -> Result<CertifiedAnswer, ToolFault>
-    ensures { Gives (IsSolve n limit bound collection.now) result }
+fn solved(alloc: Global, collection: &[u8], task: &Task) -> Result<CertifiedAnswer, ToolFault>
+    ensures { Gives (IsSolve task.now collection.now) result }
 {
-    let level = Collection::read(alloc, collection)?.level(alloc, n)?;
-    answer(alloc, &level, limit, bound)
+    let level = Collection::read(alloc, collection)?.level(alloc, task.n as usize)?;
+    answer(alloc, &level, task)
 }
 
 /// Returns the answer to a level.
-fn answer(
-    alloc: Global,
-    level: &Level,
-    limit: u32,
-    bound: bool,
-) -> Result<CertifiedAnswer, ToolFault>
-    ensures { Gives (IsSolveAnswer limit bound level.now) result }
+fn answer(alloc: Global, level: &Level, task: &Task) -> Result<CertifiedAnswer, ToolFault>
+    ensures { Gives (IsSolveAnswer task.now level.now) result }
 {
     let mut taken = EntryLines::new(alloc);
-    match solve_into(alloc, level, limit, bound, &mut taken) {
-        Ok(found) => told(alloc, level, limit, bound, found, taken),
+    match search_into(
+        alloc,
+        level,
+        task.limit,
+        task.best(),
+        task.bound,
+        &mut taken,
+    ) {
+        Ok(found) => certified(alloc, level, task, &found, taken),
         Err(fault) => Err(tool_fault(fault)),
     }
 }
 
-pub(crate) fn tool_fault(fault: SolveFault) -> ToolFault
-    ensures { result ≡ of_solve fault }
-{
-    match fault {
-        SolveFault::BadLimit => ToolFault::BadLimit,
-        SolveFault::Level(fault) => ToolFault::from(fault),
-        SolveFault::Memory => ToolFault::Memory,
-    }
-}
-
 /// Returns the answer that reports what was found, with the certificate of the taken entries.
-fn told(
+fn certified(
     alloc: Global,
     level: &Level,
-    limit: u32,
-    bound: bool,
-    found: Found,
+    task: &Task,
+    found: &Finding,
     taken: EntryLines,
 ) -> Result<CertifiedAnswer, ToolFault>
-    requires { IsFoundWithProof (HasLines taken) level.now limit bound found }
-    ensures { MatchResult result (TellsOutcome limit bound level.now)
-        (λ fault. fault ≡ tool.Memory) }
+    requires { IsFindingWithProof (HasLines taken) level.now task.now.limit task.now.bound
+        (best_of task.now) found.now }
+    ensures { MatchResult result (TellsProved task.now level.now) (λ fault. fault ≡ tool.Memory) }
 {
-    match found {
-        Found::Solved { dirs, pushes } => {
-            let cert = ReadyCert::new(alloc, &Claim::Pushes(pushes), taken)?;
-            let text = solution_text(alloc, level, dirs.as_slice(), pushes)?;
-            let answer = Answer::new(text, 0);
+    let answer = report(alloc, level, task, found)?;
+    match claim_shown(task, found) {
+        Some(claim) => {
+            let cert = ReadyCert::new(alloc, &claim, taken)?;
             Ok(CertifiedAnswer {
                 cert: Some(cert),
                 answer,
             })
         }
-        Found::Unsolvable => {
-            let cert = ReadyCert::new(alloc, &Claim::Unsolvable, taken)?;
-            let text = String::from_str(alloc, "unsolvable\n")?;
-            let answer = Answer::new(text.into_bytes(), 0);
-            Ok(CertifiedAnswer {
-                cert: Some(cert),
-                answer,
-            })
-        }
-        Found::Limit { states, at_least } => {
-            if bound {
-                let cert = ReadyCert::new(alloc, &Claim::Pushes(at_least), taken)?;
-                let text = bound_text(alloc, states, at_least)?;
-                let answer = Answer::new(text, 4);
-                return Ok(CertifiedAnswer {
-                    cert: Some(cert),
-                    answer,
-                });
-            }
-            let text = limit_text(alloc, states)?;
-            let answer = Answer::new(text, 4);
-            Ok(CertifiedAnswer { cert: None, answer })
-        }
+        None => Ok(CertifiedAnswer { cert: None, answer }),
     }
 }
 
-/// Returns the line for a limit that was exceeded.
-pub(crate) fn limit_text(alloc: Global, states: u32) -> Result<Vec<u8>, AllocError>
-    ensures { IfOk result (λ text. text.items ≡ (limit_answer states).text) }
+/// Returns the claim that the certificate shows. At the limit there is one only with a bound.
+fn claim_shown(task: &Task, found: &Finding) -> Option<Claim>
+    ensures { result ≡ claim_shown task.now found.now }
 {
-    let line = format!(in alloc; "limit {states}\n")?;
-    Ok(line.into_bytes())
-}
-
-/// Returns the same line with the lower bound that the search shows.
-pub(crate) fn bound_text(alloc: Global, states: u32, at_least: u32) -> Result<Vec<u8>, AllocError>
-    ensures { IfOk result (λ text. text.items ≡ (bound_answer states at_least).text) }
-{
-    let line = format!(in alloc; "limit {states} at least {at_least}\n")?;
-    Ok(line.into_bytes())
-}
-
-/// Returns the line of a solution, and its marked text on a line of its own.
-pub(crate) fn solution_text(
-    alloc: Global,
-    level: &Level,
-    dirs: &[Dir],
-    pushes: u32,
-) -> Result<Vec<u8>, ToolFault>
-    requires { Solves level.now dirs.now }
-    ensures { MatchResult result (λ text. text.items ≡ solution_text level.now dirs.now pushes)
-        (λ fault. fault ≡ tool.Memory) }
-{
-    let moves = dirs.len();
-    let line = format!(in alloc; "solved {pushes} {moves}\n")?;
-    let mut text = line.into_bytes();
-    let marked = print_lurd(alloc, level, dirs)?;
-    text.extend_from_slice(&marked)?;
-    text.push(b'\n')?;
-    Ok(text)
+    match found {
+        Finding::Solved { pushes, .. } => Some(Claim::Pushes(*pushes)),
+        Finding::NoBetter => Some(claim_of(task.best())),
+        Finding::Limit { at_least, .. } => {
+            if task.bound {
+                return Some(Claim::Pushes(*at_least));
+            }
+            None
+        }
+    }
 }

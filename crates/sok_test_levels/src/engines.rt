@@ -2,30 +2,42 @@
 //! all of that.
 
 use sok_engine::fault::ToolFault;
+use sok_engine::serving::serve;
+use sok_solve::task::Task;
 use std::alloc::Global;
 use std::io::{Read, Write};
+
+/// The task of solving the n-th level, with no solution known.
+fn task(n: u32, limit: u32, bound: bool) -> Task {
+    Task {
+        n,
+        below: None,
+        limit,
+        bound,
+    }
+}
 
 pub(crate) fn solve_bytes<R: Read, W: Write, C: Write>(
     alloc: Global,
     input: &mut R,
-    n: usize,
+    n: u32,
     limit: u32,
     bound: bool,
     out: &mut W,
     cert: &mut C,
 ) -> Result<u8, ToolFault> {
-    sok_solve::solve::solve_bytes(alloc, input, n, limit, bound, out, cert)
+    sok_solve::solve::solve_bytes(alloc, input, &task(n, limit, bound), out, cert)
 }
 
 pub(crate) fn find_bytes<R: Read, W: Write>(
     alloc: Global,
     input: &mut R,
-    n: usize,
+    n: u32,
     limit: u32,
     bound: bool,
     out: &mut W,
 ) -> Result<u8, ToolFault> {
-    sok_solve::find::find_bytes(alloc, input, n, limit, bound, out)
+    serve(alloc, &task(n, limit, bound), input, out)
 }
 
 pub(crate) fn check_bytes<R: Read, C: Read, W: Write>(

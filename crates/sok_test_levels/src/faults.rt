@@ -57,7 +57,7 @@ impl Write for Full {
 
 /// Returns whether a level is refused with this fault and nothing is written, with a certificate
 /// and without one.
-fn refuses(alloc: Global, board: &str, n: usize, limit: u32, fault: ToolFault) -> bool {
+fn refuses(alloc: Global, board: &str, n: u32, limit: u32, fault: ToolFault) -> bool {
     let mut out = Vec::new(alloc);
     let mut cert = Vec::new(alloc);
     let solved = solve_bytes(

@@ -77,12 +77,15 @@ module _ (files : Files Bytes) (databases : Databases) (out err : Bytes) (exit :
     -- a job of solving serves its form
     pub Serves-solve : (form : Form) (n : ℕ) (best : Option ℕ) (most : ℕ) (bounds : Bool) (path : Option (String Global))
         → Means form (job.Solve file n best most bounds path)
-        → EndsWith (SolvesLevel name (files.reads name) files.makes n best most bounds (option_map (λ s. string_bytes s) path) out) err exit
+        → EndsWith (SolvesLevel name (files.reads name) files.makes (record { n = n; below = best; limit = most; bound = bounds })
+        (option_map (λ s. string_bytes s) path) out) err exit
         → Serves files databases form out err exit
     Serves-solve (solve of number below limit bound cert) n best most bounds path (file_is, number_is, best_is, limit_is, bound_is, path_is) runs =
-        same_three (λ k b p. EndsWith (SolvesLevel of (files.reads of) files.makes (digits_value 10 number) k (limit_of limit) b p out) err exit)
+        same_three (λ k b p. EndsWith (SolvesLevel of (files.reads of) files.makes
+        (record { n = digits_value 10 number; below = k; limit = limit_of limit; bound = b }) p out) err exit)
         _ _ _ _ _ _ best_is bound_is path_is
-        (same_three (λ f k m. EndsWith (SolvesLevel f (files.reads f) files.makes k best m bounds (option_map (λ s. string_bytes s) path) out) err exit)
+        (same_three (λ f k m. EndsWith (SolvesLevel f (files.reads f) files.makes (record { n = k; below = best; limit = m; bound = bounds })
+        (option_map (λ s. string_bytes s) path) out) err exit)
         _ _ _ _ _ _ (named ∙ file_is) number_is limit_is runs)
     Serves-solve _ n best most bounds path means runs = absurd means
 

@@ -1,5 +1,5 @@
 -- What the program does for a command line.
-use Rattle.std.specs.Prelude.{ℕ, ℤ, ◌≡◌, List, [], Option, Some, None, Result, Err, option_map, unwrap_or}
+use Rattle.std.specs.Prelude.{ℕ, ℤ, ◌≡◌, Bool, List, [], Option, Some, None, Result, Err, option_map, unwrap_or}
 use Rattle.std.specs.Str.Parse.{digits_value}
 use Rattle.sok_search.specs.Faults.{IsBadLimit}
 use Rattle.sok_book.specs.Books.{Book}
@@ -20,6 +20,7 @@ use Rattle.sok_keep.specs.Shows.{IsBookText, IsShow}
 use Rattle.sok_settle.specs.Offers.{OffersBytes, WritesOffers}
 use Rattle.sok_settle.specs.declared.settle.Span.{Span}
 use Rattle.sok_settle.specs.Settles.{SettlesSome, WritesSettling}
+use Rattle.sok_solve.specs.declared.task.Task.{Task}
 use Rattle.sok_databases.specs.declared.databases.Access.TheVariants as accesses
 use Rattle.sok_play.specs.Drawings.{IsDrawing}
 use Rattle.sok_play.specs.Listing.{IsListing}
@@ -34,6 +35,11 @@ use Rattle.sok_tool.specs.Databases.{Databases, IsFileless, IsNeverLacking, OfOp
 -- a text is played on a level of a file: it is replayed, or the level that it leads to is drawn
 abbrev pub RunsPlay : (ℕ → List ℕ → List ℕ → Answers) → (Option (List ℕ) → Type 0) → ℕ → Bytes → Result ℕ ToolFault → List ℕ → Type 0
 RunsPlay P reads n out result text = Writes (OfFile reads (Within input_limit (P n text))) out.old out.new result
+
+-- a level is solved as these words ask for
+abbrev pub task_of : List ℕ → Option (List ℕ) → Option (List ℕ) → Bool → Task
+task_of number below limit bound =
+    record { n = digits_value 10 number; below = option_map (λ d. digits_value 10 d) below; limit = limit_of limit; bound = bound }
 
 -- a certificate is judged for a level
 abbrev pub RunsCheck : Files Bytes → List ℕ → ℕ → List ℕ → Bytes → Result ℕ ToolFault → Type 0
@@ -88,8 +94,7 @@ Serves files databases (draw file number text) out err exit =
     EndsWith (λ result. RunsPlay IsDrawing (files.reads file) (digits_value 10 number) out result (unwrap_or text [])) err exit
 Serves files databases (check file number cert) out err exit = EndsWith (RunsCheck files file (digits_value 10 number) cert out) err exit
 Serves files databases (solve file number below limit bound cert) out err exit =
-    EndsWith (SolvesLevel file (files.reads file) files.makes (digits_value 10 number) (option_map (λ d. digits_value 10 d) below) (limit_of limit) bound cert out)
-    err exit
+    EndsWith (SolvesLevel file (files.reads file) files.makes (task_of number below limit bound) cert out) err exit
 Serves files databases (add db file) out err exit = EndsWith (RunsAdd files databases db file out) err exit
 Serves files databases (offer db id text) out err exit = EndsWith (λ result. RunsOffer databases db (id_value id) out result text) err exit
 Serves files databases (offers db file) out err exit = EndsWith (RunsOffers files databases db file out) err exit

@@ -22,6 +22,7 @@ use sok_files::ending::{ended, refused};
 use sok_files::folder::Folder;
 use sok_play::play::play_bytes;
 use sok_settle::settle::Span;
+use sok_solve::task::Task;
 use sok_words::job::Job;
 use sok_words::words::job;
 use sqlite::{Alter, Connection};
@@ -95,10 +96,13 @@ fn served<
         }
         Job::Check(file, n, cert) => { ended(check(rt, file.as_str(), n, cert.as_str(), out), err) }
         Job::Solve(file, n, below, limit, bound, cert) => {
-            ended(
-                solve(rt, file.as_str(), n, below, limit, bound, cert, out),
-                err,
-            )
+            let task = Task {
+                n,
+                below,
+                limit,
+                bound,
+            };
+            ended(solve(rt, file.as_str(), &task, cert, out), err)
         }
         Job::Add(db, file) => ended(add(rt, db.as_str(), file.as_str(), out), err),
         Job::Offer(db, id, text) => {

@@ -95,7 +95,6 @@ returns-then-len-limit-clause-cut c = λ _.
           v.key.now next s.push legal.after state.running.search full state.there legal.leads (comes.came.exact legal.after legal.leads)
           (c.requires.new.absent v.key.now next state.there comes.is);
       search = state.running.search;
-      full = full;
       aim_is = refl;
     }
 

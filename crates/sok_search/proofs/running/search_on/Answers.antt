@@ -39,4 +39,4 @@ pub returns-in_err-turn-clause-cut : goal.returns-in_err-turn-clause-cut
 returns-in_err-turn-clause-cut c = λ cut.
     let stop = err_from_is_err_and c.from_residual.result c.from_residual.ensures.1 in
     let left = c.in_err-turn.ensures.cut (sym (stop.1 ∙ ap Err stop.2) ∙ cut) in
-    record { more = left.more; search = left.search; full = left.full; aim_is = left.aim_is ∙ c.loop-index.invariant.aim }
+    record { more = left.more; search = left.search; aim_is = left.aim_is ∙ c.loop-index.invariant.aim }

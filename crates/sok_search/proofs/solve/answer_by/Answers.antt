@@ -34,7 +34,7 @@ halt-requires-clause-fits g c =
 pub halt-requires-clause-cut : goal.halt-requires-clause-cut
 halt-requires-clause-cut g c =
     let left = c.in-Err-Cut.ensures.cut (ap Err c.in-Err-Cut.field-0-is) in
-    record { more = left.more; search = left.search; full = left.full; aim_is = refl }
+    record { more = left.more; search = left.search; aim_is = refl }
 
 pub returns-in-Err-Cut : goal.returns-in-Err-Cut
 returns-in-Err-Cut g c =

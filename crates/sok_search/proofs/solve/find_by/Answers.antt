@@ -16,10 +16,10 @@ returns-in-Ok c = subst (λ (aim : Aim). IfOk c.find_in.result (IsFinding c.args
 pub halted-requires : goal.halted-requires
 halted-requires c =
     let left = c.in-Err-Cut.ensures.cut (ap Err c.in-Err-Cut.field-0-is) in
-    (c.args.board.now, c.requires.accepted, record { more = left.more; search = left.search; full = left.full; aim_is = refl })
+    (c.args.board.now, c.requires.accepted, record { more = left.more; search = left.search; aim_is = refl })
 
 pub returns-in-Err-Cut : goal.returns-in-Err-Cut
 returns-in-Err-Cut c =
     let left = c.in-Err-Cut.ensures.cut (ap Err c.in-Err-Cut.field-0-is) in
     subst (λ (aim : Aim). IsFinding c.args.board.now.rows c.args.limit aim.upper c.halted.result) left.aim_is
-    (c.halted.ensures c.args.board.now c.requires.accepted (record { more = left.more; search = left.search; full = left.full; aim_is = refl }))
+    (c.halted.ensures c.args.board.now c.requires.accepted (record { more = left.more; search = left.search; aim_is = refl }))

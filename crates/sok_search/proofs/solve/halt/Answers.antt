@@ -41,7 +41,7 @@ returns g c =
     let upper = c.args.search.now.aim.upper in
     let least = c.least_open-at_least.result in
     let fewer = not-beaten upper least (λ beaten. true≢false (sym (c.if-is_beaten.ensures.1 beaten))) in (
-      cut-short b c.requires.accepted c.args.limit p cut.search cut.more cut.full least c.least_open-at_least.ensures upper refl (fewer-beaten upper least fewer),
+      cut-short b c.requires.accepted c.args.limit p cut.search cut.more least c.least_open-at_least.ensures upper refl (fewer-beaten upper least fewer),
       fewer,
       elim c.if-wanted.branch [
         | then-wanted+in_ok-certify-2 w ↦
@@ -49,7 +49,7 @@ returns g c =
             wanted-so _ _ c.args.wanted w.if-wanted.true (
               taken.entries,
               subst (g.C.Entries.took taken.entries) (sym w.entries-is) taken.took,
-              shown-least b c.requires.accepted c.args.limit p cut.search cut.more cut.full least c.least_open-at_least.ensures c.requires.whole
+              shown-least b c.requires.accepted c.args.limit p cut.search cut.more least c.least_open-at_least.ensures c.requires.whole
                   taken.entries taken.first taken.fit,
             )
         | else-wanted w ↦ wanted-not _ _ c.args.wanted w.if-wanted.false (subst (g.C.Entries.took []) (sym w.entries-is) c.requires.none)

@@ -15,4 +15,4 @@ returns-clause-searched c = on_ok_weaker c.search_on-ended.result
 pub returns-clause-cut : goal.returns-clause-cut
 returns-clause-cut c = λ cut.
     let left = c.search_on-ended.ensures.cut cut in
-    record { more = left.more; search = left.search; full = left.full; aim_is = left.aim_is ∙ c.in_ok-enter_start.ensures.aim }
+    record { more = left.more; search = left.search; aim_is = left.aim_is ∙ c.in_ok-enter_start.ensures.aim }

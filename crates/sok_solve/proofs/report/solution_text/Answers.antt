@@ -1,6 +1,6 @@
 use Rattle.std.proofs.lemmas.Result.{err_from_is_err_and}
 use Rattle.sok_solve.proofs.Solving.{replayed}
-use Rattle.sok_solve.proofs.solve.solution_text.Goals as goal
+use Rattle.sok_solve.proofs.report.solution_text.Goals as goal
 
 pub returns-in_err-marked : goal.returns-in_err-marked
 returns-in_err-marked c =
