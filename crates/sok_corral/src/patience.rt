@@ -4,8 +4,8 @@ use sok_board::area::Sq;
 use sok_rules::fault::Memory;
 use std::alloc::Global;
 
-/// Once this many attempts in a row from a square have failed, only every eighth one there is made.
-const FAILURES: u32 = 32;
+/// Once this many attempts in a row from a square have failed, only every sixteenth one there is made.
+const FAILURES: u32 = 16;
 
 /// For each square, counts the attempts from there since one last found a fence. Those that are skipped
 /// count too.
@@ -29,7 +29,7 @@ impl Patience {
         };
         let before = *failures;
         *failures = before.wrapping_add(1);
-        before < FAILURES || before % 8 == 0
+        before < FAILURES || before % 16 == 0
     }
 
     /// Resets the count of a square, since the attempt from there found a fence.
