@@ -13,6 +13,7 @@ ghost use Rattle.sok_search.specs.Steps.{IsPriced, IsRaised};
 ghost use Rattle.sok_search.specs.PushScratches.{AreMoved, IsPushScratch};
 
 use crate::note::Standing;
+use crate::step::Step;
 use sok_bar::layout_jam::has_jam;
 use sok_board::area::Sq;
 use sok_board::board::Board;
@@ -97,32 +98,33 @@ fn is_jammed(setting: &Setting<'_>, layout: &mut Layout, from: Sq, to: Sq) -> bo
     jammed
 }
 
-/// Judges a new state, in which the box at `to` was just pushed: dead, if that box reaches no goal, by a jam
-/// with it or by a crowd; lost, by a known loss; or open with a lower bound.
+/// Judges a new state, to which a step led from one with the boxes `before`: dead, if the pushed box reaches
+/// no goal, by a jam with it or by a crowd; lost, by a known loss; or open with a lower bound.
 pub(crate) fn judge_after(
     alloc: Global,
     setting: &Setting<'_>,
     push_scratch: &mut PushScratch,
     before: &BoxSet,
-    from: Sq,
-    to: Sq,
+    step: Step,
     lost: Option<u32>,
 ) -> Result<Standing, Memory>
     requires accepted { IsAccepted setting.now.board.now }
     requires push_scratch { IsPushScratch setting.now.board.now before.now push_scratch.old }
     requires laid { IsLaidOut setting.now.board.now before.now push_scratch.old.scene.layout }
-    requires moved { AreMoved setting.now.board.now before.now from to
-        (put_in_order from to before.now) }
+    requires moved { AreMoved setting.now.board.now before.now step.push.from step.to
+        (put_in_order step.push.from step.to before.now) }
     ensures push_scratch { OnOk result
         (IsPushScratch setting.now.board.now before.now push_scratch.new) }
     ensures laid { OnOk result (IsLaidOut setting.now.board.now before.now push_scratch.new.scene.layout) }
     ensures reached { push_scratch.new.scene.reached ≡ push_scratch.old.scene.reached }
     ensures judged { (losses : List Loss) (player : ℕ)
         → IfSome lost (IsLostBy setting.now.board.now player
-        (put_in_order from to before.now) losses)
+        (put_in_order step.push.from step.to before.now) losses)
         → IfOk result (IsPriced setting.now.board.now losses player
-        (put_in_order from to before.now)) }
+        (put_in_order step.push.from step.to before.now)) }
 {
+    let Step { push, to, .. } = step;
+    let from = push.from;
     if setting.distances.stuck(to) {
         return Ok(Standing::Dead);
     }
@@ -138,26 +140,27 @@ pub(crate) fn judge_after(
     }
 }
 
-/// Raises the lower bound of an open state, in which the box at `to` was just pushed, by the lifts of its
-/// boxes. If every state is kept (`whole`), the bound stays, since dual prices have to show it.
+/// Raises the lower bound of an open state, to which a step led from one with the boxes `before`, by the
+/// lifts of its boxes. If every state is kept (`whole`), the bound stays, since dual prices have to show it.
 pub(crate) fn raise_after(
     alloc: Global,
     whole: bool,
     lifts: &Lifts,
     free: &mut Vec<bool>,
     before: &BoxSet,
-    from: Sq,
-    to: Sq,
+    step: Step,
     standing: Standing,
 ) -> Result<Standing, Memory>
-    requires there { Contains before.now from }
-    requires free { Contains before.now to → ⊥ }
-    ensures { (after : List ℕ) → IsMoved before.now from to after → IsStrictlyIncreasing after
-        → IfOk result (IsRaised lifts.now whole from after standing) }
+    requires there { Contains before.now step.push.from }
+    requires free { Contains before.now step.to → ⊥ }
+    ensures { (after : List ℕ) → IsMoved before.now step.push.from step.to after
+        → IsStrictlyIncreasing after
+        → IfOk result (IsRaised lifts.now whole step.push.from after standing) }
 {
+    let from = step.push.from;
     match standing {
         Standing::Open(bound) if !whole => {
-            let after = before.moved(alloc, from, to)?;
+            let after = before.moved(alloc, from, step.to)?;
             let more = raise(lifts, from, &after, free)?;
             Ok(Standing::Open(bound.saturating_add(more)))
         }

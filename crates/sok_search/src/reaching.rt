@@ -204,17 +204,15 @@ fn enter(
     ensures cut { CutsVisit setting.now.board.now visit.now search.old search.new result }
 {
     let Step { push, to, least } = step;
-    let from = push.from;
     let boxes = &visit.key.boxes;
-    let standing = judge_after(alloc, setting, push_scratch, boxes, from, to, lost)?;
+    let standing = judge_after(alloc, setting, push_scratch, boxes, step, lost)?;
     let standing = raise_after(
         alloc,
         search.aim.whole,
         &push_scratch.lifts,
         &mut push_scratch.free,
         boxes,
-        from,
-        to,
+        step,
         standing,
     )?;
     let deeper = visit.depth + 1;
@@ -227,7 +225,7 @@ fn enter(
     }
     let (at, _) = search
         .table
-        .insert_next(visit.index, from, to, least, deeper)?;
+        .insert_next(visit.index, push.from, to, least, deeper)?;
     let origin = origin_of(visit.index, push);
     add(search, at, deeper, Note { origin, standing })?;
     Ok(())

@@ -12,15 +12,15 @@ pub returns-in_ok-more-in-Open : goal.returns-in_ok-more-in-Open
 returns-in_ok-more-in-Open c = λ after moved rising.
     let t = c.args.lifts.now in
     let found = c.in_ok-after-in-Open in
-    let same = moved-same c.args.before.now after found.after c.args.from c.args.to moved rising found.ensures.moved found.ensures.rising in
+    let same = moved-same c.args.before.now after found.after c.args.step.push.from c.args.step.to moved rising found.ensures.moved found.ensures.rising in
     let new = c.saturating_add.result in
     let sum = c.saturating_add.ensures in
-    subst (λ (s : Standing). IsRaised t c.args.whole c.args.from after s (Open new)) (sym c.in-Open.is) (
+    subst (λ (s : Standing). IsRaised t c.args.whole c.args.step.push.from after s (Open new)) (sym c.in-Open.is) (
       new,
       refl,
       record {
         more = c.in_ok-more-in-Open.more;
-        lifts = subst (λ (boxes : List ℕ). HasLifts (lift_in t) c.args.from boxes c.in_ok-more-in-Open.more) (sym same) c.in_ok-more-in-Open.ensures;
+        lifts = subst (λ (boxes : List ℕ). HasLifts (lift_in t) c.args.step.push.from boxes c.in_ok-more-in-Open.more) (sym same) c.in_ok-more-in-Open.ensures;
         no_less = omega (arith, sum);
         no_more = omega (arith, sum);
         same = λ whole. absurd (true≢false (sym whole ∙ c.if-not-whole.true));
@@ -31,7 +31,7 @@ pub returns-in_default : goal.returns-in_default
 returns-in_default c = λ after moved rising.
     let t = c.args.lifts.now in
     let bound = c.in-Open.bound in
-    subst (λ (s : Standing). IsRaised t c.args.whole c.args.from after s (Open bound)) (sym c.in-Open.is) (
+    subst (λ (s : Standing). IsRaised t c.args.whole c.args.step.push.from after s (Open bound)) (sym c.in-Open.is) (
       bound,
       refl,
       record {
