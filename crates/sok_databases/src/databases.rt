@@ -6,7 +6,7 @@ ghost use Rattle.sok_engine.specs.declared.fault.ToolFault.TheVariants as tool;
 ghost use Rattle.sok_databases.specs.Known.{KnownDatabases, MayOpen, unknown_databases};
 
 use crate::book_file::BookFile;
-use crate::opening::{Unopened, has_levels, open};
+use crate::opening::{Tables, Unopened, open, tables_in};
 use sok_book::fault::BookFault;
 use sok_engine::fault::ToolFault;
 use sok_files::notes::{Notes, OpenedFile};
@@ -140,7 +140,7 @@ fn noted(
 
 /// Returns how many levels are in a database. An empty one has none.
 fn levels_in(connection: &mut Connection<FileStore<BookFile>>) -> Result<u32, Unopened> {
-    if !has_levels(connection) {
+    if !matches!(tables_in(connection), Tables::Levels) {
         return Ok(0);
     }
     match count(connection) {

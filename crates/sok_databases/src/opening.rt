@@ -188,9 +188,10 @@ fn open_there(
     access: Access,
 ) -> Result<Connection<FileStore<BookFile>>, Unopened> {
     let copied = copy(rt, path)?;
-    let is_empty = copied.schema().tables.as_slice().is_empty();
-    if !has_levels(&copied) && (access != Access::Make || !is_empty) {
-        return Err(Unopened::Unfit(Unfit::NoBook));
+    match tables_in(&copied) {
+        Tables::Levels => {}
+        Tables::None if access == Access::Make => {}
+        _ => return Err(Unopened::Unfit(Unfit::NoBook)),
     }
     if access == Access::Read {
         return Ok(copied);
@@ -199,14 +200,28 @@ fn open_there(
     in_turn(rt, || connect(rt, path, access))
 }
 
-/// Returns whether a database has a table of levels.
-pub(crate) fn has_levels(connection: &Connection<FileStore<BookFile>>) -> bool {
-    connection
-        .schema()
-        .tables
-        .as_slice()
-        .iter()
-        .any(|table| table.name.as_slice() == b"level".as_slice())
+/// Which tables a database has.
+#[derive(Clone, Copy)]
+pub(crate) enum Tables {
+    None,
+    /// One of levels, and perhaps others.
+    Levels,
+    /// Others alone.
+    Others,
+}
+
+/// Returns which tables a database has.
+pub(crate) fn tables_in(connection: &Connection<FileStore<BookFile>>) -> Tables {
+    let tables = connection.schema().tables.as_slice();
+    if tables.is_empty() {
+        return Tables::None;
+    }
+    for table in tables {
+        if table.name.as_slice() == b"level".as_slice() {
+            return Tables::Levels;
+        }
+    }
+    Tables::Others
 }
 
 /// Returns how many pages the log of a database may have before it is copied into the database
