@@ -1,7 +1,7 @@
 //! Each command on its files. The files are opened or made in the order in which the words name
 //! them, before anything is read.
 
-ghost use Rattle.std.specs.Prelude.{◌≡◌, ◌≢◌, IfSome, option_map, string_bytes};
+ghost use Rattle.std.specs.Prelude.{◌≢◌, IfSome, option_map, string_bytes};
 ghost use Rattle.sok_engine.specs.Inputs.{Within};
 ghost use Rattle.sok_engine.specs.Limits.{cert_limit, input_limit};
 ghost use Rattle.sok_engine.specs.Written.{Writes};
